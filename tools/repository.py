@@ -109,13 +109,6 @@ def program(name: str) -> str:
     )
 
 
-def free_memory() -> int:
-    """The bytes of memory that may be taken."""
-    with open("/proc/meminfo", encoding="ascii") as it:
-        found = re.search(r"MemAvailable:\s+(\d+)", it.read())
-    return 1024 * int(found[1]) if found else 0
-
-
 def kit() -> ModuleType:
     """The program `rt` as a module: with its functions the gate and these tools try edits."""
     path = os.path.realpath(program("rt"))

@@ -19,6 +19,134 @@ from typing import NamedTuple
 import pages
 
 CRATE, FUNCTION = "world", "run"
+# Laws that tie a definition to something simpler: the law, the definition (its file and name), and what the law says of it without
+# the definition's own cases. Each must be named by the law, and the headline must rest on it.
+TIED = (
+    (
+        "wire_laws::heads_end",
+        "Heads.head_end",
+        "the first empty line, in the words of RFC 9112",
+    ),
+    (
+        "wireclient::reply_reads_back",
+        "Reads.Items",
+        "of each reply of the grammar within the limits: its status, its body, its end",
+    ),
+    (
+        "wireclient::chunks_read_back",
+        "Reads.Items",
+        "of chunks, however lines lie in them: the lines",
+    ),
+    ("wireclient::prefixes_stand", "Reads.Items", "of a prefix: a prefix"),
+    (
+        "wire_laws::malformed_is_final",
+        "Reads.Items",
+        "of malformed bytes: the same, whatever follows them",
+    ),
+    (
+        "wire_laws::requests_are_read",
+        "Heads.ReadsHead",
+        "of what the client prints: the method, the target and the media type that it meant",
+    ),
+    (
+        "wire_laws::requests_ask",
+        "Asks.Asks",
+        "of what the client prints: what its path, method and body lead to",
+    ),
+    (
+        "wire_laws::replies_are_read",
+        "ReplyBytes.reply",
+        "what a client reads back as the status and the body",
+    ),
+    (
+        "wire_laws::watches_are_read",
+        "ReplyBytes.chunks",
+        "what a client reads back as the lines",
+    ),
+    (
+        "fieldset::written_is_read",
+        "FieldsV1.fields_v1_of",
+        "what is read back as the same set of paths",
+    ),
+    (
+        "fieldset::readings_are_written",
+        "FieldsV1.read_fields_v1",
+        "the set of which the value is written",
+    ),
+    (
+        "typed::printed_reads_back",
+        "Printing.print",
+        "what is read back as the same content",
+    ),
+    (
+        "lists::pages_go_on",
+        "Lists.page_of",
+        "pages that, joined, are the whole list, and come to an end",
+    ),
+    (
+        "lists::tokens_are_read",
+        "Body.continued_at",
+        "what is read back as the revision and the key",
+    ),
+    (
+        "history::kept_is_enough",
+        "History.compacted_to",
+        "what leaves each state and change from there on as it was",
+    ),
+    (
+        "history::seen_changes_lead_on",
+        "Seen.seen_among",
+        "what leads from the objects before to those after",
+    ),
+    (
+        "line_laws::watches_send_all",
+        "Watches.coming",
+        "what was sent and is still to come: the objects that were left, and each seen change once, in order",
+    ),
+    (
+        "wire_laws::watches_write_changes",
+        "Connections.written_on",
+        "of a watch: the changes that it sees, each once and in order, and bookmarks behind them",
+    ),
+    (
+        "line_laws::bookmarks_come_behind",
+        "Watches.is_bookmark_due",
+        "where all up to the bookmark's revision was sent",
+    ),
+    (
+        "watchline::positions_skip_nothing",
+        "Watches.pumped",
+        "a turn after which no change is passed that was not sent",
+    ),
+    (
+        "line_laws::lines_are_read",
+        "Lines.line_in",
+        "of a printed line: the object, the bookmark or the error that it says",
+    ),
+    (
+        "line_laws::pages_are_read",
+        "Body.list_text",
+        "what a client reads back as the page",
+    ),
+    (
+        "line_laws::labels_are_of_contents",
+        "Labels.labels_of",
+        "the labels of the content that the text was printed of",
+    ),
+    ("httpedge::pieces", "Runs.Steps", "the same, however bytes were cut"),
+    (
+        "reflector::follows_the_server",
+        "Run.receives_all",
+        "what gives the server's objects at the revision that is told",
+    ),
+    (
+        "summary::counts_follow",
+        "Counts.counts_of",
+        "how many objects have each value, one notice at a time",
+    ),
+    ("world_laws::each_happens", "World.Steps", "each event leads on from each world"),
+    ("world_laws::one_world", "Reports.Runs", "to one end, with one list of reports"),
+)
 WORD = r"[^\W\d][\w'-]*"
 # A definition's signature, at the indent of its block: its name stands before the colon or before its parameters.
 SIGNATURE = re.compile(
@@ -210,6 +338,36 @@ def laws() -> dict[str, set[Name]]:
     return found
 
 
+def ties(by_law: dict[str, set[Name]]) -> list[str]:
+    """The rows of what laws say of definitions in simpler words; it ends where a law doesn't name its definition."""
+    rows = []
+    for law, place, words in TIED:
+        file, _, word = place.rpartition(".")
+        named = by_law.get(law, ())
+        of = [it for it in named if (it.file, it.name) == (file, word)]
+        if len(of) != 1:
+            sys.exit(
+                f"tools/rests_on.py: {law} names no {place} that the headline rests on"
+            )
+        rows.append(f"| {of[0].crate} | `{word}` | {words} | `{law}` |")
+    return rows
+
+
+def tied_part(by_law: dict[str, set[Name]], of: tuple[str, str]) -> list[str]:
+    """The headline's part of what its definitions are tied to; nothing for another contract."""
+    if of != (CRATE, FUNCTION):
+        return []
+    return [
+        "## Tied to something simpler\n",
+        "Definitions that are long, or follow bytes one by one, and what a law says of them in other words. Who doubts one of them",
+        "can read the law in its place.\n",
+        "| crate | definition | is | by the law |",
+        "|---|---|---|---|",
+        *ties(by_law),
+        "",
+    ]
+
+
 def page(crate: str = CRATE, function: str = FUNCTION) -> list[str]:
     """The page."""
     whole = rests_on(clauses_of(crate, function))
@@ -252,6 +410,7 @@ def page(crate: str = CRATE, function: str = FUNCTION) -> list[str]:
         "Modules of the kit: "
         + ", ".join(f"`{it}`" for it in sorted(whole.kit))
         + ".\n",
+        *tied_part(by_law, (crate, function)),
         "## Laws\n",
         *(
             f"- `{law}`: {', '.join(f'`{it.name}`' for it in sorted(named))}"

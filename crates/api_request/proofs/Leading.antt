@@ -13,7 +13,7 @@ use Rattle.api_types.specs.TypesFile.{ServedShape}
 use Rattle.api_request.specs.declared.resource.Resource.{Resource}
 use Rattle.api_request.specs.declared.resource.Resource.TheVariants.{AllNamespaces, Collection, Object, Status}
 use Rattle.api_request.specs.Admit.{Parts, all_path, collection_path, object_path, parts_by, place_by, place_in, place_of, routes, status_path}
-use Rattle.api_request.specs.Routes.{IsPart, PathsOfAll, PathsOfCollections, PathsOfObjects, PathsOfStatus, path_of_all, path_of_collection, path_of_object, path_of_status}
+use Rattle.api_request.specs.RouteLaws.{IsPart, PathsOfAll, PathsOfCollections, PathsOfObjects, PathsOfStatus, path_of_all, path_of_collection, path_of_object, path_of_status}
 use Rattle.api_request.proofs.Seeking.{first_whole, params_none, rest_whole, seek_end, seek_literals, seek_part, slashed_none, steps}
 use Rattle.api_request.proofs.Walking.{AreBytes, Left, goes_on, left_all, left_past, walk_end, walk_mid}
 

@@ -23,9 +23,9 @@ segment_slash (b ∷ s) rest h = by (b == slash) h (segment_slash s rest)
     by true h later = absurd (true≢false h)
     by false h later = ap (λ x. b ∷ x) (later h)
 
-pub drop_front : (xs ys : List ℕ) → drop (length xs) (xs ++ ys) ≡ ys
-drop_front [] ys = refl
-drop_front (x ∷ xs) ys = drop_front xs ys
+pub drop_prefix : (xs ys : List ℕ) → drop (length xs) (xs ++ ys) ≡ ys
+drop_prefix [] ys = refl
+drop_prefix (x ∷ xs) ys = drop_prefix xs ys
 
 pub length_pushed : (xs : List ℕ) (x : ℕ) → length (xs ++ x ∷ []) ≡ suc (length xs)
 length_pushed [] x = refl
@@ -38,7 +38,7 @@ cuts_slash : (b : ℕ) (s : List ℕ) → cuts (b ∷ s ++ slash ∷ []) (slash 
 cuts_slash b s =
     ap (λ n. ltb 1 (suc n) && pointwise nat_eq (slash ∷ []) (drop (suc n - 1) (b ∷ s ++ slash ∷ []))) (length_pushed s slash)
     ∙ ap (λ n. ltb 1 (suc (suc (length s))) && pointwise nat_eq (slash ∷ []) (drop n (b ∷ s ++ slash ∷ []))) (one_less (suc (length s)))
-    ∙ ap (λ xs. ltb 1 (suc (suc (length s))) && pointwise nat_eq (slash ∷ []) xs) (drop_front (b ∷ s) (slash ∷ []))
+    ∙ ap (λ xs. ltb 1 (suc (suc (length s))) && pointwise nat_eq (slash ∷ []) xs) (drop_prefix (b ∷ s) (slash ∷ []))
     ∙ ap (λ t. t && true) (is_more (length s))
   where
     is_more : (n : ℕ) → ltb 1 (suc (suc n)) ≡ true

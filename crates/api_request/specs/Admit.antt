@@ -94,7 +94,7 @@ abbrev pub parts_by : List ℕ → RouteOf Resource → Parts
 parts_by path r = walk r.pattern r.text path r.names 0 0
 
 -- what a path leads to: a type's number, a namespace and a name
-pub record Place : Type 0 where
+pub record RequestInfo : Type 0 where
   pub resource : Resource
   pub kind : ℕ
   pub namespace : Option (List ℕ)
@@ -114,15 +114,15 @@ abbrev pub kind_with : List ServedShape → Resource → Option ℕ → Option �
 kind_with types Status kind = option_and_then (λ n. if has_status types n then Some n else None) kind
 kind_with types resource kind = kind
 
-abbrev pub place_in : List ServedShape → Resource → Parts → Option Place
+abbrev pub place_in : List ServedShape → Resource → Parts → Option RequestInfo
 place_in types resource parts =
     option_map (λ kind. record { resource = resource; kind = kind; namespace = named (codes "namespace") parts; name = named (codes "name") parts }) (kind_with types resource (kind_in types parts))
 
-abbrev pub place_by : List ServedShape → List ℕ → RouteOf Resource → Option Place
+abbrev pub place_by : List ServedShape → List ℕ → RouteOf Resource → Option RequestInfo
 place_by types path r = place_in types r.value (parts_by path r)
 
 -- nothing in a path is percent-decoded, and it is of ASCII characters alone
-abbrev pub place_of : List ServedShape → List ℕ → Option Place
+abbrev pub place_of : List ServedShape → List ℕ → Option RequestInfo
 place_of types path = if list_all is_ascii path then option_and_then (place_by types path) (first routes path) else None
 
 -- ---- media types
@@ -177,10 +177,10 @@ abbrev pub is_status : Resource → Bool
 is_status Status = true
 is_status resource = false
 
-abbrev pub target_at : Place → Method → Target
+abbrev pub target_at : RequestInfo → Method → Target
 target_at place method = record { kind = place.kind; namespace = place.namespace; name = place.name; status = is_status place.resource; method = method }
 
-abbrev pub media_admitted : Place → Method → Option (List ℕ) → Result Target Denied
+abbrev pub media_admitted : RequestInfo → Method → Option (List ℕ) → Result Target Denied
 media_admitted place method media =
     if accepts_media method media then Ok (target_at place method) else not_admitted UnsupportedMediaType (codes "media type not served") None
 
@@ -188,11 +188,11 @@ abbrev pub method_served : Resource → Option Method → Option Method
 method_served r None = None
 method_served r (Some m) = if serves r m then Some m else None
 
-abbrev pub method_admitted : Place → Option Method → Option (List ℕ) → Result Target Denied
+abbrev pub method_admitted : RequestInfo → Option Method → Option (List ℕ) → Result Target Denied
 method_admitted place None media = not_admitted MethodNotAllowed (codes "method not served here") (Some (allowed place.resource))
 method_admitted place (Some m) media = media_admitted place m media
 
-abbrev pub place_admitted : Option Place → List ℕ → Option (List ℕ) → Result Target Denied
+abbrev pub place_admitted : Option RequestInfo → List ℕ → Option (List ℕ) → Result Target Denied
 place_admitted None method media = not_admitted NotFound (codes "no such path") None
 place_admitted (Some place) method media = method_admitted place (method_served place.resource (method_named method)) media
 

@@ -5,5 +5,5 @@ pub mod Json
 pub mod Calls
 pub mod Stored
 pub mod Admit
-pub mod Routes
-pub mod Seen
+pub mod RouteLaws
+pub mod Views

@@ -3,12 +3,12 @@
 
 ghost use Rattle.std.specs.Prelude.{◌≡◌, IfOk, Err, option_map};
 ghost use Rattle.api_request.specs.Admit.{not_admitted, method_served, place_admitted, target_at};
-ghost use Rattle.api_request.specs.Seen.{Admits, place_seen, target_of};
+ghost use Rattle.api_request.specs.Views.{Admits, place_seen, target_of};
 
 use crate::calls::Target;
 use crate::media::accepts_media;
 use crate::method::Method;
-use crate::place::Place;
+use crate::place::RequestInfo;
 use crate::reason::Reason;
 use crate::resource::Resource;
 use json_values::copied;
@@ -61,7 +61,7 @@ fn refused(reason: Reason, message: &'static str, allow: Option<&'static str>) -
     })
 }
 
-fn target_at(alloc: Global, place: Place<'_>, method: Method) -> Result<Target, AllocError>
+fn target_at(alloc: Global, place: RequestInfo<'_>, method: Method) -> Result<Target, AllocError>
     ensures { IfOk result (λ t. target_of t ≡ target_at (place_seen place.entry) method) }
 {
     Ok(Target {
@@ -85,7 +85,7 @@ fn method_served(resource: Resource, method: Option<Method>) -> Option<Method>
 /// What a request asks, by the place that its path leads to, its method and its media type.
 pub fn admitted(
     alloc: Global,
-    place: Option<Place<'_>>,
+    place: Option<RequestInfo<'_>>,
     method: &str,
     media: Option<&[u8]>,
 ) -> Result<Target, AdmitFault>

@@ -20,7 +20,7 @@ impl Body {
     ghost use Rattle.std.specs.Prelude.{◌≡◌, ◌<◌, IfErr, IfOk, IsUtf8, None, Some, length};
     ghost use Rattle.serde_json.specs.Errors.{IsMemory};
     ghost use Rattle.serde_json.specs.Read.{read as read_text};
-    ghost use Rattle.api_request.specs.Seen.{body_seen};
+    ghost use Rattle.api_request.specs.Views.{body_seen};
 
     /// The body that these bytes are, or why they are no JSON text.
     pub fn read(alloc: Global, bytes: &[u8]) -> Result<Body, Error>

@@ -1,7 +1,7 @@
 //! The error of a check, which refuses the call or is out of memory. A refusal itself stands in `call_refusal`.
 
 ghost use Rattle.std.specs.Prelude.{◌≡◌, ℕ, IfOk, List, string_bytes};
-ghost use Rattle.api_request.specs.Seen.{RefusesFor};
+ghost use Rattle.api_request.specs.Views.{RefusesFor};
 
 use crate::call_refusal::CallRefusal;
 use crate::reason::Reason;
@@ -16,7 +16,7 @@ pub enum CallError {
 
 impl CallError {
     /// A refusal with this message, which was put together for it, unless there was no room in memory.
-    pub fn told(alloc: Global, reason: Reason, message: Result<String, AllocError>) -> CallError
+    pub fn reported(alloc: Global, reason: Reason, message: Result<String, AllocError>) -> CallError
         ensures { (text : List ℕ) → IfOk message (λ s. string_bytes s ≡ text) → RefusesFor result reason text }
     {
         match message {
@@ -29,7 +29,7 @@ impl CallError {
     pub fn refused_for(alloc: Global, reason: Reason, message: &str) -> CallError
         ensures { RefusesFor result reason message.now }
     {
-        CallError::told(alloc, reason, String::from_str(alloc, message))
+        CallError::reported(alloc, reason, String::from_str(alloc, message))
     }
 }
 

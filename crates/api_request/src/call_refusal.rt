@@ -25,7 +25,7 @@ impl CallRefusal {
     ghost use Rattle.serde_json.specs.View.{view};
     ghost use Rattle.serde_json.specs.Written.{compact_text};
     ghost use Rattle.api_request.specs.Validated.{call_refusal};
-    ghost use Rattle.api_request.specs.Seen.{call_refusal_of};
+    ghost use Rattle.api_request.specs.Views.{call_refusal_of};
     ghost use Rattle.api_request.specs.Status.{call_refusal_value};
 
     /// A refusal without causes.

@@ -54,7 +54,7 @@ fn subresource_of(status: bool) -> Subresource
 impl Target {
     ghost use Rattle.std.specs.Prelude.{◌≡◌, option_map};
     ghost use Rattle.api_request.specs.Calls.{scope_of};
-    ghost use Rattle.api_request.specs.Seen.{scope_seen, target_of};
+    ghost use Rattle.api_request.specs.Views.{scope_seen, target_of};
 
     /// Which objects it is of; none for a name without a namespace, to which no path leads.
     pub fn scope(&self) -> Option<Scope<'_>>
@@ -101,7 +101,7 @@ pub struct Plan {
 
 impl Plan {
     ghost use Rattle.std.specs.Prelude.{◌≡◌, option_and_then, option_map};
-    ghost use Rattle.api_request.specs.Seen.{plan_of};
+    ghost use Rattle.api_request.specs.Views.{plan_of};
 
     /// The text that the change stores; None where it deletes, and where nothing is changed.
     pub fn change_body(&self) -> Option<&str>

@@ -19,7 +19,7 @@ pub struct Change {
 impl Change {
     ghost use Rattle.std.specs.Prelude.{◌≡◌};
     ghost use Rattle.history.specs.Read.{key_of};
-    ghost use Rattle.api_request.specs.Seen.{change_of};
+    ghost use Rattle.api_request.specs.Views.{change_of};
 
     /// The revision that the objects have with it.
     pub fn revision(&self) -> u64

@@ -30,7 +30,7 @@ pub use calls::{Answer, CREATED, Call, OK, Plan, Scope, Target};
 pub use change::Change;
 pub use media::{APPLY_TYPE, JSON_TYPE};
 pub use method::Method;
-pub use place::Place;
+pub use place::RequestInfo;
 pub use reason::Reason;
 pub use resource::Resource;
 pub use route::Routes;

@@ -41,7 +41,7 @@ fn without_trailing(field: &[u8]) -> &[u8]
     ensures { result.now ≡ without_trailing field.now }
 {
     match field {
-        [front @ .., last] if is_blank(*last) => without_trailing(front),
+        [prefix @ .., last] if is_blank(*last) => without_trailing(prefix),
         _ => field,
     }
 }

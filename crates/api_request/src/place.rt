@@ -6,7 +6,7 @@ ghost use Rattle.schema.specs.ObjectShape.{field_of};
 ghost use Rattle.api_types.specs.Served.{types_view};
 ghost use Rattle.schema.specs.Shape.{shape};
 ghost use Rattle.api_request.specs.Admit.{has_status, kind_in, kind_with, place_in};
-ghost use Rattle.api_request.specs.Seen.{parts_of, place_seen};
+ghost use Rattle.api_request.specs.Views.{parts_of, place_seen};
 
 use crate::resource::Resource;
 use api_types::Types;
@@ -15,7 +15,7 @@ use schema::{Schema, field_at};
 
 /// The place that a path leads to.
 #[derive(Clone, Copy, Debug)]
-pub struct Place<'p> {
+pub struct RequestInfo<'p> {
     pub resource: Resource,
     /// The number of the type.
     pub kind: u32,
@@ -73,11 +73,15 @@ fn kind_with(types: &Types, resource: Resource, kind: Option<u32>) -> Option<u32
 
 /// The type, namespace and name that a route's parameters name, if the type is served and has the
 /// resource.
-pub fn place_in<'p>(types: &Types, resource: Resource, params: &Params<'_, 'p>) -> Option<Place<'p>>
+pub fn place_in<'p>(
+    types: &Types,
+    resource: Resource,
+    params: &Params<'_, 'p>,
+) -> Option<RequestInfo<'p>>
     requires { AllText (parts_of params.now) }
     ensures { option_map place_seen result ≡ place_in (types_view types.now) resource (parts_of params.now) }
 {
-    Some(Place {
+    Some(RequestInfo {
         resource,
         kind: kind_with(types, resource, kind_in(types, params))?,
         namespace: part(params, "namespace"),

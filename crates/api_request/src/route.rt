@@ -6,7 +6,7 @@ ghost use Rattle.api_request.specs.Admit.{FitsIn, routes, with_route};
 
 use crate::admitting::{AdmitFault, admitted};
 use crate::calls::Target;
-use crate::place::{Place, place_in};
+use crate::place::{RequestInfo, place_in};
 use crate::resource::Resource;
 use api_types::Types;
 use matchit::{InsertError, Router};
@@ -50,7 +50,7 @@ impl Routes {
     ghost use Rattle.std.specs.Prelude.{◌≡◌, option_map};
     ghost use Rattle.api_types.specs.Served.{types_view};
     ghost use Rattle.api_request.specs.Admit.{admitted, place_of};
-    ghost use Rattle.api_request.specs.Seen.{Admits, place_seen};
+    ghost use Rattle.api_request.specs.Views.{Admits, place_seen};
 
     /// The four routes.
     pub fn new(alloc: Global) -> Result<Routes, AllocError> {
@@ -63,7 +63,7 @@ impl Routes {
     }
 
     /// What a path leads to; it is of ASCII characters alone, and nothing in it is percent-decoded.
-    pub fn place<'p>(&self, types: &Types, path: &'p str) -> Option<Place<'p>>
+    pub fn place<'p>(&self, types: &Types, path: &'p str) -> Option<RequestInfo<'p>>
         ensures { option_map place_seen result ≡ place_of (types_view types.now) path.now }
     {
         if !path.is_ascii() {

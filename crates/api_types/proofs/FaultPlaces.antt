@@ -10,15 +10,15 @@ use Rattle.serde_json.specs.Data.{Data, Items, Members, object}
 use Rattle.serde_json.specs.Find.{as_object, get_item, get_member}
 use Rattle.serde_json.specs.View.{items_view, view}
 use Rattle.serde_json.specs.declared.value.Value.{Value}
-use Rattle.api_types.specs.FaultPlaces.{AreBroken, AreBrokenIn, ArePlacesAmong, ArePlacesOf, AreToldOf, BeginsBy, Breaks, BreaksAt, BreaksKnown, EndsReading, FirstIs, IsBroken, IsBrokenIn, IsPlaceAmong, IsPlaceOf, IsPlaced, IsRefusedBy, IsToldOf, TellsFile, TellsType, TellsTypes, TypeBreaks, behind, says}
+use Rattle.api_types.specs.FaultPlaces.{AreBroken, AreBrokenIn, ArePlacesAmong, ArePlacesOf, AreReportedOf, BeginsBy, Breaks, BreaksAt, BreaksKnown, EndsReading, FirstIs, IsBroken, IsBrokenIn, IsPlaceAmong, IsPlaceOf, IsLocated, IsRefusedBy, IsReportedOf, ReportsFile, ReportsType, ReportsTypes, TypeBreaks, behind, says}
 use Rattle.api_types.specs.Keywords.{has_only, keywords}
 use Rattle.api_types.specs.Refusals.{Refusal, and_then, misfit, unknown_keyword}
 use Rattle.api_types.specs.Forms.{Form, known_form}
-use Rattle.api_types.specs.Seen.{Fails, Tells}
+use Rattle.api_types.specs.Views.{FailsWith, ReportsFault}
 use Rattle.api_types.specs.TypesFile.{ServedShape, listed, type_of, type_properties}
 use Rattle.api_types.specs.declared.fault.TypesFault.{TypesFault}
 use Rattle.api_types.specs.declared.fault.TypesFault.TheVariants as fault
-use Rattle.api_types.specs.declared.fault_place.PlacedFault.{PlacedFault}
+use Rattle.api_types.specs.declared.fault_place.LocatedFault.{LocatedFault}
 use Rattle.api_types.specs.declared.fault_place.Step.{Step}
 use Rattle.api_types.specs.declared.fault_place.Step.TheVariants as step
 use Rattle.api_types.specs.declared.locate.Broken.{Broken}
@@ -42,7 +42,7 @@ ends_breaks f depth (s ∷ steps) d (part, is, h) = (part, is, ends_breaks f (su
 
 known_ends : (f : TypesFault) (depth : ℕ) (ms : Members) → has_only keywords ms ≡ true → BreaksKnown f depth (object ms) → EndsReading f depth (object ms)
 known_ends f depth ms known h =
-    subst (λ b. Fails f (and_then (if not b then Err unknown_keyword else known_form depth ms) (λ form. if depth == 1 && not (is_some (type_properties form ms)) then Err misfit else Ok form))) (sym known) h
+    subst (λ b. FailsWith f (and_then (if not b then Err unknown_keyword else known_form depth ms) (λ form. if depth == 1 && not (is_some (type_properties form ms)) then Err misfit else Ok form))) (sym known) h
 
 -- ---- lists and their first
 
@@ -124,11 +124,11 @@ in_schema items t s (Err e) is all = tt
 
 -- ---- types
 
-pub begun : (own : TypesFault) (r : Result ServedShape Refusal) (told : PlacedFault) (others all : List PlacedFault) → IsRefusedBy r (Some own) → all ≡ told ∷ others → told.fault ≡ own → BeginsBy r all
-begun own (Ok t) told others all is front same = absurd is
-begun own (Err e) told others all is front same = subst (BeginsBy (Err e)) (sym front) (subst (λ f. Tells f e) (sym same) is)
+pub begun : (own : TypesFault) (r : Result ServedShape Refusal) (reported : LocatedFault) (others all : List LocatedFault) → IsRefusedBy r (Some own) → all ≡ reported ∷ others → reported.fault ≡ own → BeginsBy r all
+begun own (Ok t) reported others all is prefix same = absurd is
+begun own (Err e) reported others all is prefix same = subst (BeginsBy (Err e)) (sym prefix) (subst (λ f. ReportsFault f e) (sym same) is)
 
-pub refused_by : (own : TypesFault) (r : Result ServedShape Refusal) → (own ≡ fault.Memory → ⊥) → Fails own r → IsRefusedBy r (Some own)
+pub refused_by : (own : TypesFault) (r : Result ServedShape Refusal) → (own ≡ fault.Memory → ⊥) → FailsWith own r → IsRefusedBy r (Some own)
 refused_by fault.UnknownKeyword r known is = subst (λ q. IsRefusedBy q (Some fault.UnknownKeyword)) (sym is) refl
 refused_by fault.UnknownType r known is = subst (λ q. IsRefusedBy q (Some fault.UnknownType)) (sym is) refl
 refused_by fault.Misfit r known is = subst (λ q. IsRefusedBy q (Some fault.Misfit)) (sym is) refl
@@ -137,7 +137,7 @@ refused_by fault.SameNames r known is = subst (λ q. IsRefusedBy q (Some fault.S
 refused_by fault.NotTheForm r known is = subst (λ q. IsRefusedBy q (Some fault.NotTheForm)) (sym is) refl
 refused_by fault.Memory r known is = absurd (known refl)
 
-pub fails_by : (own : TypesFault) (r : Result ServedShape Refusal) → IsRefusedBy r (Some own) → Fails own r
+pub fails_by : (own : TypesFault) (r : Result ServedShape Refusal) → IsRefusedBy r (Some own) → FailsWith own r
 fails_by own (Ok t) is = absurd is
 fails_by fault.UnknownKeyword (Err e) is = ap Err is
 fails_by fault.UnknownType (Err e) is = ap Err is
@@ -147,19 +147,19 @@ fails_by fault.SameNames (Err e) is = ap Err is
 fails_by fault.NotTheForm (Err e) is = ap Err is
 fails_by fault.Memory (Err e) is = absurd is
 
-pub told_part : (breaks : TypesFault → ℕ → Data → Type 0) (n : ℕ) (t : Data) (b : Broken) (told : PlacedFault) → IsPlaced n b told → IsBrokenIn breaks t b → IsToldOf breaks n t told
-told_part breaks n t b told (same, number, part) h =
-    (number, subst (λ f. TypeBreaks breaks f (option_map (λ p. p.steps.items) told.place.part) t) (sym same) (subst (λ o. TypeBreaks breaks b.fault o t) (sym part) h))
+pub reported_part : (breaks : TypesFault → ℕ → Data → Type 0) (n : ℕ) (t : Data) (b : Broken) (reported : LocatedFault) → IsLocated n b reported → IsBrokenIn breaks t b → IsReportedOf breaks n t reported
+reported_part breaks n t b reported (same, number, part) h =
+    (number, subst (λ f. TypeBreaks breaks f (option_map (λ p. p.steps.items) reported.place.part) t) (sym same) (subst (λ o. TypeBreaks breaks b.fault o t) (sym part) h))
 
-told_whole : (breaks : TypesFault → ℕ → Data → Type 0) (n : ℕ) (t : Data) (own : TypesFault) (told : PlacedFault) → told.fault ≡ own → told.place.number ≡ n → told.place.part ≡ None → Fails own (type_of t) → IsToldOf breaks n t told
-told_whole breaks n t own told same number none h =
-    (number, subst (λ o. TypeBreaks breaks told.fault (option_map (λ p. p.steps.items) o) t) (sym none) (subst (λ f. Fails f (type_of t)) (sym same) h))
+reported_whole : (breaks : TypesFault → ℕ → Data → Type 0) (n : ℕ) (t : Data) (own : TypesFault) (reported : LocatedFault) → reported.fault ≡ own → reported.place.number ≡ n → reported.place.part ≡ None → FailsWith own (type_of t) → IsReportedOf breaks n t reported
+reported_whole breaks n t own reported same number none h =
+    (number, subst (λ o. TypeBreaks breaks reported.fault (option_map (λ p. p.steps.items) o) t) (sym none) (subst (λ f. FailsWith f (type_of t)) (sym same) h))
 
 -- the fault of a type as a whole before those of its schema
-pub whole_first : (n : ℕ) (t : Data) (own : TypesFault) (told : PlacedFault) (others all : List PlacedFault) → all ≡ told ∷ others → told.fault ≡ own → told.place.number ≡ n → told.place.part ≡ None → Fails own (type_of t)
-    → AreToldOf n t others → AreToldOf n t all
-whole_first n t own told others all is same number none h k =
-    subst (AreToldOf n t) (sym is) (All-cons (IsToldOf Breaks n t) told others (told_whole Breaks n t own told same number none h) k.0, told_whole EndsReading n t own told same number none h)
+pub whole_first : (n : ℕ) (t : Data) (own : TypesFault) (reported : LocatedFault) (others all : List LocatedFault) → all ≡ reported ∷ others → reported.fault ≡ own → reported.place.number ≡ n → reported.place.part ≡ None → FailsWith own (type_of t)
+    → AreReportedOf n t others → AreReportedOf n t all
+whole_first n t own reported others all is same number none h k =
+    subst (AreReportedOf n t) (sym is) (All-cons (IsReportedOf Breaks n t) reported others (reported_whole Breaks n t own reported same number none h) k.0, reported_whole EndsReading n t own reported same number none h)
 
 dropped : (vs : List Value) (i : ℕ) → get_item i (items_view vs) ≡ get_item 0 (items_view (drop i vs))
 dropped [] zero = refl
@@ -171,37 +171,37 @@ item_there : (vs : List Value) (i : ℕ) (v : Value) → i < length vs → v ≡
 item_there vs i v lt is = dropped vs i ∙ ap (λ us. get_item 0 (items_view us)) (drop-cons vs i v lt) ∙ ap (λ u. Some (view u)) (sym is)
 
 -- what is told of the first types, with all that may be told of the others
-abbrev pub IsToldSoFar : ℕ → List Value → List PlacedFault → Type 0
-IsToldSoFar i vs done =
-    ((more : List PlacedFault) → TellsTypes i (items_view (drop i vs)) more → TellsTypes 0 (items_view vs) (done ++ more)) × ArePlacesAmong (items_view vs) done
+abbrev pub IsReportedSoFar : ℕ → List Value → List LocatedFault → Type 0
+IsReportedSoFar i vs done =
+    ((more : List LocatedFault) → ReportsTypes i (items_view (drop i vs)) more → ReportsTypes 0 (items_view vs) (done ++ more)) × ArePlacesAmong (items_view vs) done
 
-pub none_told : (vs : List Value) (done : List PlacedFault) → done ≡ [] → IsToldSoFar 0 vs done
-none_told vs done is = subst (IsToldSoFar 0 vs) (sym is) (λ more h. h, (All-nil (λ told. IsPlaceAmong Breaks told.fault told.place (items_view vs)), tt))
+pub none_reported : (vs : List Value) (done : List LocatedFault) → done ≡ [] → IsReportedSoFar 0 vs done
+none_reported vs done is = subst (IsReportedSoFar 0 vs) (sym is) (λ more h. h, (All-nil (λ reported. IsPlaceAmong Breaks reported.fault reported.place (items_view vs)), tt))
 
-pub one_told : (vs : List Value) (i : ℕ) (v : Value) (done found new : List PlacedFault) → i < length vs → v ≡ get_or vs i v → new ≡ done ++ found → TellsType i (view v) found
-    → IsToldSoFar i vs done → IsToldSoFar (i + 1) vs new
-one_told vs i v done found new lt is appended told kept =
-    let among : PlacedFault → Type 0 = λ t. IsPlaceAmong Breaks t.fault t.place (items_view vs) in
-    let ending : PlacedFault → Type 0 = λ t. IsPlaceAmong EndsReading t.fault t.place (items_view vs) in
+pub one_reported : (vs : List Value) (i : ℕ) (v : Value) (done found new : List LocatedFault) → i < length vs → v ≡ get_or vs i v → new ≡ done ++ found → ReportsType i (view v) found
+    → IsReportedSoFar i vs done → IsReportedSoFar (i + 1) vs new
+one_reported vs i v done found new lt is appended reported kept =
+    let among : LocatedFault → Type 0 = λ t. IsPlaceAmong Breaks t.fault t.place (items_view vs) in
+    let ending : LocatedFault → Type 0 = λ t. IsPlaceAmong EndsReading t.fault t.place (items_view vs) in
     let left : drop i vs ≡ v ∷ drop (i + 1) vs = drop-cons vs i v lt ∙ ap (λ u. u ∷ drop (suc i) vs) (sym is) ∙ ap (λ n. v ∷ drop n vs) (sym (add-one i)) in (
       λ more h.
-          subst (TellsTypes 0 (items_view vs)) (sym (append_assoc done found more) ∙ ap (λ ts. ts ++ more) (sym appended))
-          (kept.0 (found ++ more) (subst (λ us. TellsTypes i (items_view us) (found ++ more)) (sym left) (found, more, refl, told, subst (λ n. TellsTypes n (items_view (drop (i + 1) vs)) more) (add-one i) h))),
+          subst (ReportsTypes 0 (items_view vs)) (sym (append_assoc done found more) ∙ ap (λ ts. ts ++ more) (sym appended))
+          (kept.0 (found ++ more) (subst (λ us. ReportsTypes i (items_view us) (found ++ more)) (sym left) (found, more, refl, reported, subst (λ n. ReportsTypes n (items_view (drop (i + 1) vs)) more) (add-one i) h))),
       subst (ArePlacesAmong (items_view vs)) (sym appended) (
-        All-append among done found kept.1.0 (All-weaker (IsToldOf Breaks i (view v)) among (λ t h. (view v, ap (λ n. get_item n (items_view vs)) h.0 ∙ item_there vs i v lt is, h.1)) found told.1.0),
-        first_joined ending done found kept.1.1 (first_weaker (IsToldOf EndsReading i (view v)) ending (λ t h. (view v, ap (λ n. get_item n (items_view vs)) h.0 ∙ item_there vs i v lt is, h.1)) found told.1.1),
+        All-append among done found kept.1.0 (All-weaker (IsReportedOf Breaks i (view v)) among (λ t h. (view v, ap (λ n. get_item n (items_view vs)) h.0 ∙ item_there vs i v lt is, h.1)) found reported.1.0),
+        first_joined ending done found kept.1.1 (first_weaker (IsReportedOf EndsReading i (view v)) ending (λ t h. (view v, ap (λ n. get_item n (items_view vs)) h.0 ∙ item_there vs i v lt is, h.1)) found reported.1.1),
       ),
     )
 
-pub all_told : (vs : List Value) (i : ℕ) (done : List PlacedFault) → length vs ≤ i → IsToldSoFar i vs done → TellsTypes 0 (items_view vs) done
-all_told vs i done le kept = subst (TellsTypes 0 (items_view vs)) (append-nil done) (kept.0 [] (subst (λ us. TellsTypes i (items_view us) []) (sym (drop_all i vs le)) refl))
+pub all_reported : (vs : List Value) (i : ℕ) (done : List LocatedFault) → length vs ≤ i → IsReportedSoFar i vs done → ReportsTypes 0 (items_view vs) done
+all_reported vs i done le kept = subst (ReportsTypes 0 (items_view vs)) (append-nil done) (kept.0 [] (subst (λ us. ReportsTypes i (items_view us) []) (sym (drop_all i vs le)) refl))
 
 -- ---- the file
 
-pub none_listed : (f : TypesFault) (file : Data) (all : List PlacedFault) → f ≡ fault.NotTheForm → Fails f (listed file) → all ≡ [] → TellsFile (listed file) all
-none_listed f file all form is none = subst (λ r. TellsFile r all) (sym (subst (λ g. Fails g (listed file)) form is)) none
+pub none_listed : (f : TypesFault) (file : Data) (all : List LocatedFault) → f ≡ fault.NotTheForm → FailsWith f (listed file) → all ≡ [] → ReportsFile (listed file) all
+none_listed f file all form is none = subst (λ r. ReportsFile r all) (sym (subst (λ g. FailsWith g (listed file)) form is)) none
 
-pub in_file : {V : Type 0} (items : V → List PlacedFault) (file : Data) (ts : Items) (r : Result V AllocError) → listed file ≡ Ok ts → IfOk r (λ v. ArePlacesAmong ts (items v)) → IfOk r (λ v. ArePlacesOf file (items v))
+pub in_file : {V : Type 0} (items : V → List LocatedFault) (file : Data) (ts : Items) (r : Result V AllocError) → listed file ≡ Ok ts → IfOk r (λ v. ArePlacesAmong ts (items v)) → IfOk r (λ v. ArePlacesOf file (items v))
 in_file items file ts (Ok v) is all = (
   All-weaker (λ t. IsPlaceAmong Breaks t.fault t.place ts) (λ t. IsPlaceOf Breaks t.fault t.place file) (λ t h. (ts, is, h)) (items v) all.0,
   first_weaker (λ t. IsPlaceAmong EndsReading t.fault t.place ts) (λ t. IsPlaceOf EndsReading t.fault t.place file) (λ t h. (ts, is, h)) (items v) all.1,

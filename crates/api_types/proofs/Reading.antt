@@ -11,7 +11,7 @@ use Rattle.serde_json.specs.View.{view}
 use Rattle.api_types.specs.Refusals.{Refusal, misfit, and_then}
 use Rattle.schema.specs.Shape.{Shape, shape, Fields, no_fields, field, fields_in}
 use Rattle.api_types.specs.TypesFile.{shape_in, schema_at, properties_in, fields_at, one_field}
-use Rattle.api_types.specs.Seen.{Gives, Fails}
+use Rattle.api_types.specs.Views.{Returns, FailsWith}
 use Rattle.api_types.specs.declared.fault.TypesFault.{TypesFault}
 use Rattle.api_types.specs.declared.fault.TypesFault.TheVariants as faults
 use Rattle.schema.specs.declared.schema.Schema.{Schema}
@@ -68,7 +68,7 @@ after_pushed : (fs : List (String Global × Schema)) (f : String Global × Schem
 after_pushed fs f (Err e) = refl
 after_pushed fs f (Ok more) = ap Ok (sym (both_pushed fs f more))
 
-pub fails_first : (e : TypesFault) (done : Fields) (k : List ℕ) (s : Result Shape Refusal) (left : Result Fields Refusal) → Fails e s → Fails e (after done (one_field k s left))
+pub fails_first : (e : TypesFault) (done : Fields) (k : List ℕ) (s : Result Shape Refusal) (left : Result Fields Refusal) → FailsWith e s → FailsWith e (after done (one_field k s left))
 fails_first faults.UnknownKeyword done k s left h = rw h refl
 fails_first faults.UnknownType done k s left h = rw h refl
 fails_first faults.Misfit done k s left h = rw h refl
@@ -84,5 +84,5 @@ pushed whole fs n s k one left kept read named =
     kept ∙ ap (λ r. after (fields_in fs) (one_field k r left)) read ∙ ap (λ f. after (fields_in fs) (one_field f (Ok (shape s)) left)) (sym named) ∙ after_pushed fs (n, s) left
 
 -- a fault that `?` hands on
-pub passed_on : {X Y : Type 0} (view : X → Y) (e f : TypesFault) (r : Result X TypesFault) (answer : Result Y Refusal) → r ≡ Err e → e ≡ f → Fails f answer → Gives view r answer
-passed_on view e f r answer is same h = subst (λ s. Gives view s answer) (sym is) (subst (λ x. Fails x answer) (sym same) h)
+pub passed_on : {X Y : Type 0} (view : X → Y) (e f : TypesFault) (r : Result X TypesFault) (answer : Result Y Refusal) → r ≡ Err e → e ≡ f → FailsWith f answer → Returns view r answer
+passed_on view e f r answer is same h = subst (λ s. Returns view s answer) (sym is) (subst (λ x. FailsWith x answer) (sym same) h)

@@ -7,7 +7,7 @@ use Rattle.serde_json.specs.declared.value.Value.{Value}
 use Rattle.api_types.specs.Refusals.{Refusal, and_then}
 use Rattle.api_types.specs.Served.{served}
 use Rattle.api_types.specs.TypesFile.{ServedShape, type_of, types_of, one_type}
-use Rattle.api_types.specs.Seen.{Fails}
+use Rattle.api_types.specs.Views.{FailsWith}
 use Rattle.api_types.specs.declared.fault.TypesFault.{TypesFault}
 use Rattle.api_types.specs.declared.fault.TypesFault.TheVariants as faults
 use Rattle.api_types.specs.declared.served.Served.{Served}
@@ -27,7 +27,7 @@ after_pushed done t (Ok more) = ap Ok (sym (append_assoc done (t ∷ []) more))
 pub after_all : (done : List ServedShape) → after done (Ok []) ≡ Ok done
 after_all done = ap Ok (append-nil done)
 
-fails_first : (e : TypesFault) (done : List ServedShape) (t : Result ServedShape Refusal) (left : Result (List ServedShape) Refusal) → Fails e t → Fails e (after done (one_type t left))
+fails_first : (e : TypesFault) (done : List ServedShape) (t : Result ServedShape Refusal) (left : Result (List ServedShape) Refusal) → FailsWith e t → FailsWith e (after done (one_type t left))
 fails_first faults.UnknownKeyword done t left h = rw h refl
 fails_first faults.UnknownType done t left h = rw h refl
 fails_first faults.Misfit done t left h = rw h refl
@@ -47,5 +47,5 @@ module _ (vs : List Value) (i : ℕ) (v : Value) (lt : i < length vs) (is : v �
       first ∙ ap (λ r. after (map served ts) (one_type r (types_of (items_view (drop (i + 1) vs))))) read ∙ after_pushed (map served ts) (served t) _
       ∙ ap (λ us. after us (types_of (items_view (drop (i + 1) vs)))) (sym (map-append served ts (t ∷ [])))
 
-  pub one_fault : (e : TypesFault) → Fails e (type_of (view v)) → Fails e whole
-  one_fault e h = subst (Fails e) (sym first) (fails_first e (map served ts) (type_of (view v)) (types_of (items_view (drop (i + 1) vs))) h)
+  pub one_fault : (e : TypesFault) → FailsWith e (type_of (view v)) → FailsWith e whole
+  one_fault e h = subst (FailsWith e) (sym first) (fails_first e (map served ts) (type_of (view v)) (types_of (items_view (drop (i + 1) vs))) h)

@@ -5,9 +5,9 @@ pub mod Refusals
 pub mod Keywords
 pub mod Forms
 pub mod TypesFile
-pub mod ServedView
+pub mod ServedViews
 pub mod Served
-pub mod Seen
+pub mod Views
 pub mod FaultPlaces
 pub mod Retyping
 pub mod ChangeLaws

@@ -1,6 +1,6 @@
 -- What contracts see of the types that are served.
 use Rattle.std.specs.Prelude.{List, map}
-pub use Rattle.api_types.specs.ServedView.{served}
+pub use Rattle.api_types.specs.ServedViews.{served}
 use Rattle.api_types.specs.TypesFile.{ServedShape}
 use Rattle.api_types.specs.declared.types.Types.{Types}
 

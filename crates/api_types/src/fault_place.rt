@@ -94,7 +94,7 @@ impl fmt::Display for FaultPlace {
 
 /// A fault of a types file with its place.
 #[derive(Debug, Drop)]
-pub struct PlacedFault {
+pub struct LocatedFault {
     /// The rule that is broken.
     pub fault: TypesFault,
     /// Where.

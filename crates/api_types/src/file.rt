@@ -8,7 +8,7 @@ ghost use Rattle.api_types.specs.Names.{is_kind_name, is_plural};
 ghost use Rattle.json_values.specs.Members.{text_at};
 ghost use Rattle.api_types.specs.TypesFile.{text_where, fields_of, is_envelope, own_properties, put_field, type_shape, type_of, types_of, listed};
 ghost use Rattle.api_types.specs.Served.{served};
-ghost use Rattle.api_types.specs.Seen.{Gives};
+ghost use Rattle.api_types.specs.Views.{Returns};
 ghost use Rattle.api_types.specs.declared.fault.TypesFault.TheVariants.{NotTheForm};
 ghost use Rattle.api_types.specs.Depths.{AreFieldsAt};
 ghost use Rattle.schema.specs.Lawful.{names_of};
@@ -45,7 +45,7 @@ fn own_fields(
     alloc: Global,
     properties: &Map<String, Value>,
 ) -> Result<Vec<(String, Schema)>, TypesFault>
-    ensures read { Gives (λ v. fields_in v.items) result (fields_of 1 (own_properties (members_view properties.now.entries))) }
+    ensures read { Returns (λ v. fields_in v.items) result (fields_of 1 (own_properties (members_view properties.now.entries))) }
     ensures kept { IfOk result (λ v. AreFieldsAt 1 (fields_in v.items)) }
     ensures apart { IfOk result (λ v. (k : List ℕ) → is_envelope k ≡ true → list_any (bytes_eq k) (names_of (fields_in v.items)) ≡ false) }
 {
@@ -94,7 +94,7 @@ fn put_field(
 
 /// Reads the schema of a type, and adds what every type has.
 fn read_root(alloc: Global, schema: &Map<String, Value>) -> Result<Schema, TypesFault>
-    ensures read { Gives shape result (type_shape (Some (members_view schema.now.entries))) }
+    ensures read { Returns shape result (type_shape (Some (members_view schema.now.entries))) }
     ensures kept { IfOk result (λ s. IsObjectShape (shape s)) }
 {
     let Form::Object(false) = own_form(alloc, 1, schema)? else {
@@ -113,7 +113,7 @@ fn read_root(alloc: Global, schema: &Map<String, Value>) -> Result<Schema, Types
 }
 
 pub(crate) fn group_of<'a>(members: &'a Map<String, Value>) -> Result<&'a str, TypesFault>
-    ensures { Gives (λ s. s.now) result (text_where is_dns_subdomain (text_at (codes "group") (members_view members.now.entries))) }
+    ensures { Returns (λ s. s.now) result (text_where is_dns_subdomain (text_at (codes "group") (members_view members.now.entries))) }
 {
     match text_at(members, "group") {
         Some(group) if is_dns_subdomain(group) => Ok(group),
@@ -122,7 +122,7 @@ pub(crate) fn group_of<'a>(members: &'a Map<String, Value>) -> Result<&'a str, T
 }
 
 pub(crate) fn version_of<'a>(members: &'a Map<String, Value>) -> Result<&'a str, TypesFault>
-    ensures { Gives (λ s. s.now) result (text_where is_dns_label (text_at (codes "version") (members_view members.now.entries))) }
+    ensures { Returns (λ s. s.now) result (text_where is_dns_label (text_at (codes "version") (members_view members.now.entries))) }
 {
     match text_at(members, "version") {
         Some(version) if is_dns_label(version) => Ok(version),
@@ -131,7 +131,7 @@ pub(crate) fn version_of<'a>(members: &'a Map<String, Value>) -> Result<&'a str,
 }
 
 fn kind_of<'a>(members: &'a Map<String, Value>) -> Result<&'a str, TypesFault>
-    ensures { Gives (λ s. s.now) result (text_where is_kind_name (text_at (codes "kind") (members_view members.now.entries))) }
+    ensures { Returns (λ s. s.now) result (text_where is_kind_name (text_at (codes "kind") (members_view members.now.entries))) }
 {
     match text_at(members, "kind") {
         Some(kind) if is_kind_name(kind) => Ok(kind),
@@ -140,7 +140,7 @@ fn kind_of<'a>(members: &'a Map<String, Value>) -> Result<&'a str, TypesFault>
 }
 
 pub(crate) fn plural_of<'a>(members: &'a Map<String, Value>) -> Result<&'a str, TypesFault>
-    ensures { Gives (λ s. s.now) result (text_where is_plural (text_at (codes "plural") (members_view members.now.entries))) }
+    ensures { Returns (λ s. s.now) result (text_where is_plural (text_at (codes "plural") (members_view members.now.entries))) }
 {
     match text_at(members, "plural") {
         Some(plural) if is_plural(plural) => Ok(plural),
@@ -150,7 +150,7 @@ pub(crate) fn plural_of<'a>(members: &'a Map<String, Value>) -> Result<&'a str, 
 
 /// Reads a type.
 pub(crate) fn read_type(alloc: Global, value: &Value) -> Result<Served, TypesFault>
-    ensures read { Gives served result (type_of (view value.now)) }
+    ensures read { Returns served result (type_of (view value.now)) }
     ensures kept { IfOk result (λ t. IsObjectShape (shape t.schema)) }
 {
     let Some(members) = value.as_object() else {
@@ -180,7 +180,7 @@ pub(crate) fn read_type(alloc: Global, value: &Value) -> Result<Served, TypesFau
 
 /// Reads types in turn.
 pub(crate) fn read_types(alloc: Global, values: &[Value]) -> Result<Vec<Served>, TypesFault>
-    ensures types { Gives (λ v. map served v.items) result (types_of (items_view values.now)) }
+    ensures types { Returns (λ v. map served v.items) result (types_of (items_view values.now)) }
     ensures each { IfOk result (λ v. length v.items ≡ length values.now) }
     ensures kept { IfOk result (λ v. All (λ t. IsObjectShape (shape t.schema)) v.items) }
 {
@@ -193,7 +193,7 @@ pub(crate) fn read_types(alloc: Global, values: &[Value]) -> Result<Vec<Served>,
 
 /// The types that a file lists, not read yet.
 pub(crate) fn listed(file: &Value) -> Result<&Vec<Value>, TypesFault>
-    ensures listed { Gives (λ v. items_view v.now.items) result (listed (view file.now)) }
+    ensures listed { Returns (λ v. items_view v.now.items) result (listed (view file.now)) }
     ensures few { IfOk result (λ v. vec_len v.now ≤ 4294967295) }
     ensures form { IfErr result (λ fault. fault ≡ NotTheForm) }
 {

@@ -6,7 +6,7 @@ ghost use Rattle.schema.specs.Shape.{Shape, kind_of};
 ghost use Rattle.api_types.specs.Keywords.{texts_in, key_names, is_scalar_schema, have_scalars, is_keyed_struct, atomic_kind, set_kind, keyed_kind, list_type, object_type, array_type, scalar_type};
 ghost use Rattle.api_types.specs.Forms.{scalar_form, object_fits, list_fits, scalar_fits, form_of, known_form, own_form};
 ghost use Rattle.api_types.specs.Refusals.{misfit, some_or};
-ghost use Rattle.api_types.specs.Seen.{type_name, form_view, Gives};
+ghost use Rattle.api_types.specs.Views.{type_name, form_view, Returns};
 
 use crate::fault::TypesFault;
 use crate::keywords::{
@@ -29,7 +29,7 @@ pub(crate) enum Form {
 }
 
 fn texts_in(alloc: Global, values: &[Value]) -> Result<Vec<String>, TypesFault>
-    ensures { Gives (λ v. map string_bytes v.items) result (some_or misfit (texts_in (items_view values.now))) }
+    ensures { Returns (λ v. map string_bytes v.items) result (some_or misfit (texts_in (items_view values.now))) }
 {
     let mut texts = Vec::new(alloc);
     for value in values {
@@ -49,7 +49,7 @@ fn names_ascend(names: &[String]) -> bool
 
 /// The names of a map list's key fields, in byte order.
 fn key_names(alloc: Global, schema: &Map<String, Value>) -> Result<Vec<String>, TypesFault>
-    ensures { Gives (λ v. map string_bytes v.items) result (some_or misfit (key_names (members_view schema.now.entries))) }
+    ensures { Returns (λ v. map string_bytes v.items) result (some_or misfit (key_names (members_view schema.now.entries))) }
 {
     let Some(values) = items_at(schema, "x-kubernetes-list-map-keys") else {
         return Err(TypesFault::Misfit);
@@ -93,7 +93,7 @@ fn is_keyed_struct(names: &[String], item: &Map<String, Value>) -> bool
 }
 
 fn atomic_kind(schema: &Map<String, Value>) -> Result<ListKind, TypesFault>
-    ensures { Gives kind_of result (some_or misfit (atomic_kind (members_view schema.now.entries))) }
+    ensures { Returns kind_of result (some_or misfit (atomic_kind (members_view schema.now.entries))) }
 {
     if has(schema, "x-kubernetes-list-map-keys") {
         return Err(TypesFault::Misfit);
@@ -102,7 +102,7 @@ fn atomic_kind(schema: &Map<String, Value>) -> Result<ListKind, TypesFault>
 }
 
 fn set_kind(schema: &Map<String, Value>) -> Result<ListKind, TypesFault>
-    ensures { Gives kind_of result (some_or misfit (set_kind (members_view schema.now.entries))) }
+    ensures { Returns kind_of result (some_or misfit (set_kind (members_view schema.now.entries))) }
 {
     if has(schema, "x-kubernetes-list-map-keys") || !is_scalar_schema(members_at(schema, "items")) {
         return Err(TypesFault::Misfit);
@@ -111,7 +111,7 @@ fn set_kind(schema: &Map<String, Value>) -> Result<ListKind, TypesFault>
 }
 
 fn keyed_kind(alloc: Global, schema: &Map<String, Value>) -> Result<ListKind, TypesFault>
-    ensures { Gives kind_of result (some_or misfit (keyed_kind (members_view schema.now.entries))) }
+    ensures { Returns kind_of result (some_or misfit (keyed_kind (members_view schema.now.entries))) }
 {
     let names = key_names(alloc, schema)?;
     let Some(item) = members_at(schema, "items") else {
@@ -124,7 +124,7 @@ fn keyed_kind(alloc: Global, schema: &Map<String, Value>) -> Result<ListKind, Ty
 }
 
 fn list_type(alloc: Global, schema: &Map<String, Value>) -> Result<ListKind, TypesFault>
-    ensures { Gives kind_of result (some_or misfit (list_type (members_view schema.now.entries))) }
+    ensures { Returns kind_of result (some_or misfit (list_type (members_view schema.now.entries))) }
 {
     match text_or(schema, "x-kubernetes-list-type", "atomic") {
         Some("atomic") => atomic_kind(schema),
@@ -179,7 +179,7 @@ fn scalar_fits(schema: &Map<String, Value>) -> bool
 }
 
 fn object_form(schema: &Map<String, Value>) -> Result<Form, TypesFault>
-    ensures { Gives form_view result (some_or misfit (form_of object_type (members_view schema.now.entries))) }
+    ensures { Returns form_view result (some_or misfit (form_of object_type (members_view schema.now.entries))) }
 {
     if !object_fits(schema) {
         return Err(TypesFault::Misfit);
@@ -191,7 +191,7 @@ fn object_form(schema: &Map<String, Value>) -> Result<Form, TypesFault>
 }
 
 fn list_form(alloc: Global, schema: &Map<String, Value>) -> Result<Form, TypesFault>
-    ensures { Gives form_view result (some_or misfit (form_of array_type (members_view schema.now.entries))) }
+    ensures { Returns form_view result (some_or misfit (form_of array_type (members_view schema.now.entries))) }
 {
     if !list_fits(schema) {
         return Err(TypesFault::Misfit);
@@ -200,7 +200,7 @@ fn list_form(alloc: Global, schema: &Map<String, Value>) -> Result<Form, TypesFa
 }
 
 fn scalar_form(schema: &Map<String, Value>, form: Form) -> Result<Form, TypesFault>
-    ensures { (s : Shape) → form_view form ≡ scalar_form s → Gives form_view result (some_or misfit (form_of (scalar_type s) (members_view schema.now.entries))) }
+    ensures { (s : Shape) → form_view form ≡ scalar_form s → Returns form_view result (some_or misfit (form_of (scalar_type s) (members_view schema.now.entries))) }
 {
     if !scalar_fits(schema) {
         return Err(TypesFault::Misfit);
@@ -209,7 +209,7 @@ fn scalar_form(schema: &Map<String, Value>, form: Form) -> Result<Form, TypesFau
 }
 
 fn form_of(alloc: Global, name: TypeName, schema: &Map<String, Value>) -> Result<Form, TypesFault>
-    ensures { Gives form_view result (some_or misfit (form_of (type_name name) (members_view schema.now.entries))) }
+    ensures { Returns form_view result (some_or misfit (form_of (type_name name) (members_view schema.now.entries))) }
 {
     match name {
         TypeName::Object => object_form(schema),
@@ -226,7 +226,7 @@ pub(crate) fn known_form(
     depth: usize,
     schema: &Map<String, Value>,
 ) -> Result<Form, TypesFault>
-    ensures form { Gives form_view result (known_form depth (members_view schema.now.entries)) }
+    ensures form { Returns form_view result (known_form depth (members_view schema.now.entries)) }
     ensures within { OnOk result (depth ≤ 16) }
 {
     let Some(name) = type_in(schema) else {
@@ -245,7 +245,7 @@ pub(crate) fn own_form(
     depth: usize,
     schema: &Map<String, Value>,
 ) -> Result<Form, TypesFault>
-    ensures form { Gives form_view result (own_form depth (members_view schema.now.entries)) }
+    ensures form { Returns form_view result (own_form depth (members_view schema.now.entries)) }
     ensures within { OnOk result (depth ≤ 16) }
 {
     if !has_only(schema, &KEYWORDS) {

@@ -5,7 +5,7 @@ ghost use Rattle.serde_json.specs.Find.{get_member};
 ghost use Rattle.serde_json.specs.View.{members_view};
 ghost use Rattle.schema.specs.Among.{is_in};
 ghost use Rattle.api_types.specs.Keywords.{has_no, has_only, is_object_or_absent, text_or, keywords, type_named, type_in, is_scalar_type, map_type};
-ghost use Rattle.api_types.specs.Seen.{type_name};
+ghost use Rattle.api_types.specs.Views.{type_name};
 
 use json_values::{has, member, members_at, text_at};
 use schema::is_in;

@@ -24,7 +24,7 @@ mod types;
 
 pub use change_laws::lawful_changes;
 pub use fault::TypesFault;
-pub use fault_place::{FaultPlace, Part, PlacedFault, Step};
+pub use fault_place::{FaultPlace, LocatedFault, Part, Step};
 pub use lawful::is_lawful;
 pub use locate::all_places;
 pub use retyping::{ChangeFault, Retyping};

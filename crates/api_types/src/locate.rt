@@ -6,14 +6,14 @@ ghost use Rattle.serde_json.specs.Data.{Data, Members, object};
 ghost use Rattle.serde_json.specs.Find.{as_object, get_member};
 ghost use Rattle.json_values.specs.Members.{members_at};
 ghost use Rattle.serde_json.specs.View.{items_view, members_view, view};
-ghost use Rattle.api_types.specs.FaultPlaces.{AreBroken, AreBrokenIn, ArePlacesAmong, ArePlacesOf, AreToldOf, Breaks, BreaksAt, BreaksKnown, EndsReading, IsBroken, IsPlaced, IsRefusedBy, TellsFile, TellsType, TellsTypes, behind};
+ghost use Rattle.api_types.specs.FaultPlaces.{AreBroken, AreBrokenIn, ArePlacesAmong, ArePlacesOf, AreReportedOf, Breaks, BreaksAt, BreaksKnown, EndsReading, IsBroken, IsLocated, IsRefusedBy, ReportsFile, ReportsType, ReportsTypes, behind};
 ghost use Rattle.api_types.specs.Keywords.{has_only, keywords};
 ghost use Rattle.api_types.specs.TypesFile.{listed, type_of, type_properties};
-ghost use Rattle.api_types.specs.Seen.{form_view};
-ghost use Rattle.api_types.specs.declared.fault_place.PlacedFault.{PlacedFault};
+ghost use Rattle.api_types.specs.Views.{form_view};
+ghost use Rattle.api_types.specs.declared.fault_place.LocatedFault.{LocatedFault};
 
 use crate::fault::TypesFault;
-use crate::fault_place::{FaultPlace, Part, PlacedFault, Step};
+use crate::fault_place::{FaultPlace, LocatedFault, Part, Step};
 use crate::file::{group_of, is_envelope, listed, plural_of, read_type, version_of};
 use crate::forms::{Form, known_form};
 use crate::keywords::{KEYWORDS, has_only};
@@ -129,12 +129,12 @@ fn own_faults(
     Ok(found)
 }
 
-fn joined(front: Vec<Broken>, rest: Vec<Broken>) -> Result<Vec<Broken>, AllocError>
-    ensures order { IfOk result (λ v. v.items ≡ front.items ++ rest.items) }
-    ensures broken { (depth : ℕ) (d : Data) → AreBroken depth d front.items → AreBroken depth d rest.items
+fn joined(prefix: Vec<Broken>, rest: Vec<Broken>) -> Result<Vec<Broken>, AllocError>
+    ensures order { IfOk result (λ v. v.items ≡ prefix.items ++ rest.items) }
+    ensures broken { (depth : ℕ) (d : Data) → AreBroken depth d prefix.items → AreBroken depth d rest.items
         → IfOk result (λ v. AreBroken depth d v.items) }
 {
-    let mut all = front;
+    let mut all = prefix;
     let mut rest = rest;
     all.append(&mut rest)?;
     Ok(all)
@@ -296,14 +296,14 @@ fn find_in_schema(alloc: Global, value: &Value) -> Result<Vec<Broken>, AllocErro
 }
 
 /// A fault of a type, at a part of its schema or as a whole.
-fn placed(
+fn located(
     alloc: Global,
     number: usize,
     value: &Value,
     fault: TypesFault,
     part: Option<Part>,
-) -> Result<PlacedFault, AllocError>
-    ensures { IfOk result (λ told. (told.fault ≡ fault) × (told.place.number ≡ number) × (told.place.part ≡ part)) }
+) -> Result<LocatedFault, AllocError>
+    ensures { IfOk result (λ reported. (reported.fault ≡ fault) × (reported.place.number ≡ number) × (reported.place.part ≡ part)) }
 {
     let names = names_of(alloc, value)?;
     let place = FaultPlace {
@@ -311,32 +311,32 @@ fn placed(
         names,
         part,
     };
-    Ok(PlacedFault { fault, place })
+    Ok(LocatedFault { fault, place })
 }
 
-fn placed_part(
+fn located_part(
     alloc: Global,
     number: usize,
     value: &Value,
     broken: Broken,
-) -> Result<PlacedFault, AllocError>
-    ensures { IfOk result (IsPlaced number broken) }
+) -> Result<LocatedFault, AllocError>
+    ensures { IfOk result (IsLocated number broken) }
 {
     let Broken { fault, part } = broken;
-    placed(alloc, number, value, fault, Some(part))
+    located(alloc, number, value, fault, Some(part))
 }
 
-fn all_placed(
+fn all_located(
     alloc: Global,
     number: usize,
     value: &Value,
     inner: Vec<Broken>,
-) -> Result<Vec<PlacedFault>, AllocError>
-    ensures { AreBrokenIn (view value.now) inner.items → IfOk result (λ v. AreToldOf number (view value.now) v.items) }
+) -> Result<Vec<LocatedFault>, AllocError>
+    ensures { AreBrokenIn (view value.now) inner.items → IfOk result (λ v. AreReportedOf number (view value.now) v.items) }
 {
     let mut all = Vec::new(alloc);
     for broken in inner {
-        all.push(placed_part(alloc, number, value, broken)?)?;
+        all.push(located_part(alloc, number, value, broken)?)?;
     }
     Ok(all)
 }
@@ -355,11 +355,11 @@ fn own_fault(alloc: Global, value: &Value) -> Result<Option<TypesFault>, AllocEr
 }
 
 /// Whether they begin by this fault.
-fn begins_by(all: &[PlacedFault], fault: TypesFault) -> bool
-    ensures { result ≡ true → (told : PlacedFault) × (others : List PlacedFault) × (all.now ≡ told ∷ others) × (told.fault ≡ fault) }
+fn begins_by(all: &[LocatedFault], fault: TypesFault) -> bool
+    ensures { result ≡ true → (reported : LocatedFault) × (others : List LocatedFault) × (all.now ≡ reported ∷ others) × (reported.fault ≡ fault) }
 {
     match all.first() {
-        Some(told) => told.fault == fault,
+        Some(reported) => reported.fault == fault,
         None => false,
     }
 }
@@ -370,20 +370,20 @@ fn places_of_refused(
     number: usize,
     value: &Value,
     own: TypesFault,
-) -> Result<Vec<PlacedFault>, AllocError>
-    ensures { IsRefusedBy (type_of (view value.now)) (Some own) → IfOk result (λ v. TellsType number (view value.now) v.items) }
+) -> Result<Vec<LocatedFault>, AllocError>
+    ensures { IsRefusedBy (type_of (view value.now)) (Some own) → IfOk result (λ v. ReportsType number (view value.now) v.items) }
 {
     let broken = find_in_schema(alloc, value)?;
-    let mut all = all_placed(alloc, number, value, broken)?;
+    let mut all = all_located(alloc, number, value, broken)?;
     if begins_by(&all, own) {
         return Ok(all);
     }
-    all.insert(0, placed(alloc, number, value, own, None)?)?;
+    all.insert(0, located(alloc, number, value, own, None)?)?;
     Ok(all)
 }
 
-fn places_of(alloc: Global, number: usize, value: &Value) -> Result<Vec<PlacedFault>, AllocError>
-    ensures { IfOk result (λ v. TellsType number (view value.now) v.items) }
+fn places_of(alloc: Global, number: usize, value: &Value) -> Result<Vec<LocatedFault>, AllocError>
+    ensures { IfOk result (λ v. ReportsType number (view value.now) v.items) }
 {
     match own_fault(alloc, value)? {
         Some(own) => places_of_refused(alloc, number, value, own),
@@ -392,8 +392,8 @@ fn places_of(alloc: Global, number: usize, value: &Value) -> Result<Vec<PlacedFa
 }
 
 /// The places in these types.
-fn places_among(alloc: Global, types: &[Value]) -> Result<Vec<PlacedFault>, AllocError>
-    ensures told { IfOk result (λ v. TellsTypes 0 (items_view types.now) v.items) }
+fn places_among(alloc: Global, types: &[Value]) -> Result<Vec<LocatedFault>, AllocError>
+    ensures reported { IfOk result (λ v. ReportsTypes 0 (items_view types.now) v.items) }
     ensures places { IfOk result (λ v. ArePlacesAmong (items_view types.now) v.items) }
 {
     let mut all = Vec::new(alloc);
@@ -412,8 +412,8 @@ fn places_among(alloc: Global, types: &[Value]) -> Result<Vec<PlacedFault>, Allo
 /// file for. Of the first of each it is promised that reading ends at the schema there by this fault, of the others that
 /// the rule is broken there, if need be beside a keyword that is unknown. None where the file's own form is at fault, or
 /// its types are read and two have one name.
-pub fn all_places(alloc: Global, file: &Value) -> Result<Vec<PlacedFault>, AllocError>
-    ensures told { IfOk result (λ v. TellsFile (listed (view file.now)) v.items) }
+pub fn all_places(alloc: Global, file: &Value) -> Result<Vec<LocatedFault>, AllocError>
+    ensures reported { IfOk result (λ v. ReportsFile (listed (view file.now)) v.items) }
     ensures places { IfOk result (λ v. ArePlacesOf (view file.now) v.items) }
 {
     match listed(file) {

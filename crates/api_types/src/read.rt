@@ -5,7 +5,7 @@ ghost use Rattle.schema.specs.Shape.{shape, fields_in};
 ghost use Rattle.json_values.specs.Members.{has};
 ghost use Rattle.api_types.specs.Forms.{object_form};
 ghost use Rattle.api_types.specs.TypesFile.{shape_in, schema_at, properties_in, fields_at, shape_of_form};
-ghost use Rattle.api_types.specs.Seen.{Gives};
+ghost use Rattle.api_types.specs.Views.{Returns};
 ghost use Rattle.api_types.specs.Depths.{KeepsAt, AreFieldsAt};
 
 use crate::fault::TypesFault;
@@ -23,7 +23,7 @@ fn schema_at(
     depth: usize,
 ) -> Result<Schema, TypesFault>
     requires { depth ≤ 16 }
-    ensures read { Gives shape result (schema_at name.now depth (members_view schema.now.entries)) }
+    ensures read { Returns shape result (schema_at name.now depth (members_view schema.now.entries)) }
     ensures kept { IfOk result (λ s. KeepsAt (depth + 1) (shape s)) }
 {
     match schema.get(name) {
@@ -40,7 +40,7 @@ fn read_fields(
     depth: usize,
 ) -> Result<Vec<(String, Schema)>, TypesFault>
     requires { depth ≤ 16 }
-    ensures read { Gives (λ v. fields_in v.items) result (fields_at depth (view value.now)) }
+    ensures read { Returns (λ v. fields_in v.items) result (fields_at depth (view value.now)) }
     ensures kept { IfOk result (λ v. AreFieldsAt depth (fields_in v.items)) }
 {
     let Value::Object(properties) = value else {
@@ -61,7 +61,7 @@ fn properties_in(
     depth: usize,
 ) -> Result<Vec<(String, Schema)>, TypesFault>
     requires { depth ≤ 16 }
-    ensures read { Gives (λ v. fields_in v.items) result (properties_in depth (members_view schema.now.entries)) }
+    ensures read { Returns (λ v. fields_in v.items) result (properties_in depth (members_view schema.now.entries)) }
     ensures kept { IfOk result (λ v. AreFieldsAt depth (fields_in v.items)) }
 {
     match schema.get("properties") {
@@ -79,7 +79,7 @@ fn read_object(
 ) -> Result<Schema, TypesFault>
     requires { depth ≤ 16 }
     ensures read { let ms = members_view schema.now.entries in
-        Gives shape result (shape_of_form (has (codes "additionalProperties") ms) (schema_at (codes "additionalProperties") depth ms) (properties_in depth ms) (schema_at (codes "items") depth ms) (object_form is_atomic)) }
+        Returns shape result (shape_of_form (has (codes "additionalProperties") ms) (schema_at (codes "additionalProperties") depth ms) (properties_in depth ms) (schema_at (codes "items") depth ms) (object_form is_atomic)) }
     ensures kept { IfOk result (λ s. KeepsAt depth (shape s)) }
 {
     if has(schema, "additionalProperties") {
@@ -93,7 +93,7 @@ fn read_object(
 #[cycle(read)]
 pub(crate) fn read_schema(alloc: Global, value: &Value, depth: usize) -> Result<Schema, TypesFault>
     requires { depth ≤ 17 }
-    ensures read { Gives shape result (shape_in depth (view value.now)) }
+    ensures read { Returns shape result (shape_in depth (view value.now)) }
     ensures kept { IfOk result (λ s. KeepsAt depth (shape s)) }
 {
     let Value::Object(schema) = value else {

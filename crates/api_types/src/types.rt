@@ -1,7 +1,7 @@
 //! The types that a server knows, looked up by number and by name. Reading a types file stands in `file`.
 ghost use Rattle.std.specs.Prelude.{◌≡◌, ◌≤◌, true, map, vec_len};
 ghost use Rattle.api_types.specs.Named.{are_named};
-ghost use Rattle.api_types.specs.ServedView.{served};
+ghost use Rattle.api_types.specs.ServedViews.{served};
 ghost use Rattle.std.specs.List.{list_all};
 ghost use Rattle.schema.specs.ObjectTest.{is_object_shape};
 ghost use Rattle.schema.specs.Shape.{shape};
@@ -29,14 +29,14 @@ impl Types {
     ghost use Rattle.schema.specs.Lawful.{is_granular_struct, is_lawful};
     ghost use Rattle.schema.specs.ObjectShape.{IsObjectShape};
     ghost use Rattle.schema.specs.Shape.{shape};
-    ghost use Rattle.api_types.specs.Seen.{Gives};
+    ghost use Rattle.api_types.specs.Views.{Returns};
     ghost use Rattle.api_types.specs.Named.{has_names};
     ghost use Rattle.api_types.specs.TypesFile.{ServedShape, declared_types, names_differ, type_number};
 
     /// Reads a types file: `{"types":[..]}`, each type an object with `group`, `version`, `kind`, `plural` and a `schema`.
     /// Refuses a file by its first fault: its own form and number of types, then type by type, and types with equal names last.
     pub fn read(alloc: Global, value: &Value) -> Result<Types, TypesFault>
-        ensures { Gives types_view result (declared_types (view value.now)) }
+        ensures { Returns types_view result (declared_types (view value.now)) }
     {
         let values = listed(value)?;
         let all = read_types(alloc, values)?;

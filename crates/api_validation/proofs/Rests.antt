@@ -9,18 +9,18 @@ use Rattle.std.proofs.lemmas.Map.Text.{is_eq-slice_cmp}
 use Rattle.serde_json.specs.Data.{Data, null, boolean, number, string, array, object, Members, no_members, member, put}
 use Rattle.serde_json.specs.Find.{as_object, get, get_member}
 use Rattle.fieldpath.specs.Scalars.{ascend, ascend_from}
-use Rattle.fieldpath.specs.Spelled.{MembersAreSpelled, member_names}
+use Rattle.fieldpath.specs.Encodable.{MembersAreEncodable, member_names}
 use Rattle.schema.specs.Among.{is_in}
 use Rattle.typed.specs.Without.{but, kept, members_kept}
 use Rattle.typed.proofs.Plains.{AreBelow, members_after, members_after-after, members_after-none, put_last, still_below}
-use Rattle.objects.proofs.Taken.{absent_above, ascend_rest, cmp, first_below, found_spelled, further, no_some, rest_above, same_some, tied}
+use Rattle.objects.proofs.Taken.{absent_above, ascend_rest, cmp, first_below, found_encodable, further, no_some, rest_above, same_some, tied}
 use Rattle.api_request.specs.declared.call_error.CallError.{CallError}
 use Rattle.api_request.specs.declared.call_error.CallError.TheVariants as call_error
 use Rattle.api_validation.specs.Envelope.{Envelope, Expected, envelope_of, kind_validated, left_out, members_but, metadata_in, metadata_names, metadata_validated, object_validated, put_metadata, rest_of, top_names, with_others}
 use Rattle.api_request.specs.Json.{IsJson}
-use Rattle.api_validation.specs.Naming.{annotations_validated, if_there, labels_validated, marks_validated, metadata_object}
-use Rattle.api_request.specs.Seen.{Fails, Gives}
-use Rattle.api_validation.specs.Seen.{envelope_seen, envelope_with, metadata_there, rest_seen}
+use Rattle.api_validation.specs.Naming.{annotations_validated, if_there, labels_validated, labels_and_annotations_validated, metadata_object}
+use Rattle.api_request.specs.Views.{FailsWith, Returns}
+use Rattle.api_validation.specs.Views.{envelope_seen, envelope_with, metadata_there, rest_seen}
 use Rattle.api_request.specs.Validated.{Validated, and_then}
 use Rattle.api_request.proofs.Checks.{no_err, ok_is}
 
@@ -31,14 +31,14 @@ abbrev AreAbove : List ℕ → Members → Type 0
 AreAbove k no_members = Unit {0}
 AreAbove k (member l d ms) = (cmp l k ≡ Greater) × AreAbove k ms
 
-over_front : (k l : List ℕ) → cmp k l ≡ Less → cmp l k ≡ Greater
-over_front k l lt = nat_list_cmp_total.antisymm l k ∙ ap ordering_reverse lt
+over_prefix : (k l : List ℕ) → cmp k l ≡ Less → cmp l k ≡ Greater
+over_prefix k l lt = nat_list_cmp_total.antisymm l k ∙ ap ordering_reverse lt
 
 all_above : (k : List ℕ) (ms : Members) → ascend_from k (member_names ms) ≡ true → AreAbove k ms
 all_above k no_members up = tt
 all_above k (member l d ms) up =
     let lt = first_below k l (member_names ms) up in
-    (over_front k l lt, all_above k ms (further k l (member_names ms) lt (rest_above k l (member_names ms) up)))
+    (over_prefix k l lt, all_above k ms (further k l (member_names ms) lt (rest_above k l (member_names ms) up)))
 
 -- these are below each that is left
 abbrev AreBefore : Members → Members → Type 0
@@ -144,9 +144,9 @@ metadata_left = but metadata_names
 abbrev metadata_name : List ℕ
 metadata_name = codes "metadata"
 
-rest_by : (top : Members) (found : Option Data) → get_member metadata_name top ≡ found → ascend (member_names top) ≡ true → MembersAreSpelled top
+rest_by : (top : Members) (found : Option Data) → get_member metadata_name top ≡ found → ascend (member_names top) ≡ true → MembersAreEncodable top
     → put_metadata (option_and_then as_object found) (members_but top_names top) ≡ members_kept (is_in top_names) (value_at metadata_name metadata_left) top
-rest_by top found is up spelled = by_value found is
+rest_by top found is up encodable = by_value found is
   where
     as_left : ((d : Data) → get_member metadata_name top ≡ Some d → metadata_left d ≡ d) → members_but top_names top ≡ members_kept (is_in top_names) (value_at metadata_name metadata_left) top
     as_left same = left_are top_names top up ∙ sym (unchanged top_names metadata_name metadata_left top up same)
@@ -162,7 +162,7 @@ rest_by top found is up spelled = by_value found is
     by_value (Some (string s)) is = as_left (stays (string s) is refl)
     by_value (Some (array ds)) is = as_left (stays (array ds) is refl)
     by_value (Some (object ms)) is =
-        ap₂ (λ x more. put metadata_name (object x) more) (left_are metadata_names ms (found_spelled metadata_name (object ms) top spelled is).0) (left_are top_names top up)
+        ap₂ (λ x more. put metadata_name (object x) more) (left_are metadata_names ms (found_encodable metadata_name (object ms) top encodable is).0) (left_are top_names top up)
         ∙ put_changed top_names metadata_name metadata_left top (object ms) up refl is
 
 pub rest_is : (top : Members) → IsJson (object top) → rest_of top (metadata_there top) ≡ rest_seen (object top)
@@ -179,7 +179,7 @@ metadata_is (Some (string s)) metadata e = no_err _ metadata e
 metadata_is (Some (array ds)) metadata e = no_err _ metadata e
 metadata_is (Some (object ms)) metadata e = sym (ok_is (Some ms) metadata e)
 
-seen_so : {X Y : Type 0} (see other : X → Y) (r : Result X CallError) (validated : Validated Y) → ((x : X) → see x ≡ other x) → Gives see r validated → Gives other r validated
+seen_so : {X Y : Type 0} (see other : X → Y) (r : Result X CallError) (validated : Validated Y) → ((x : X) → see x ≡ other x) → Returns see r validated → Returns other r validated
 seen_so see other (Ok x) validated same h = h ∙ ap Ok (same x)
 seen_so see other (Err e) validated same h = h
 
@@ -188,18 +188,18 @@ with_rest version rest = record { version = version; rest = rest }
 
 -- by the members of a body that is an object
 pub object_seen : (of : Expected) (body : Data) (top : Members) (r : Result (Option ℕ) CallError) → body ≡ object top → IsJson body
-    → Gives (envelope_with top (metadata_there top)) r (object_validated of (Some top)) → Gives (envelope_seen body) r (envelope_of of body)
+    → Returns (envelope_with top (metadata_there top)) r (object_validated of (Some top)) → Returns (envelope_seen body) r (envelope_of of body)
 object_seen of body top r is json h =
-    subst (λ d. Gives (envelope_seen d) r (envelope_of of d)) (sym is)
+    subst (λ d. Returns (envelope_seen d) r (envelope_of of d)) (sym is)
     (seen_so (envelope_with top (metadata_there top)) (envelope_seen (object top)) r (object_validated of (Some top))
     (λ version. ap (with_rest version) (rest_is top (subst IsJson is json))) h)
 
 pub object_by : (of : Expected) (top : Members) (metadata : Option Members) (u : Unit {0}) (r : Result (Option ℕ) CallError) → kind_validated of.served top ≡ Ok u → metadata_in (get_member metadata_name top) ≡ Ok metadata
-    → Gives (envelope_with top metadata) r (metadata_validated of top metadata) → Gives (envelope_with top (metadata_there top)) r (object_validated of (Some top))
+    → Returns (envelope_with top metadata) r (metadata_validated of top metadata) → Returns (envelope_with top (metadata_there top)) r (object_validated of (Some top))
 object_by of top metadata u r kind there h =
-    subst (Gives (envelope_with top (metadata_there top)) r)
+    subst (Returns (envelope_with top (metadata_there top)) r)
     (sym (ap (λ j. and_then j (λ u. and_then (metadata_in (get_member metadata_name top)) (metadata_validated of top))) kind ∙ ap (λ j. and_then j (metadata_validated of top)) there))
-    (subst (λ x. Gives (envelope_with top x) r (metadata_validated of top metadata)) (metadata_is (get_member metadata_name top) metadata there) h)
+    (subst (λ x. Returns (envelope_with top x) r (metadata_validated of top metadata)) (metadata_is (get_member metadata_name top) metadata there) h)
 
 -- ---- labels and annotations
 
@@ -247,18 +247,18 @@ mark_stays k body other = ap (λ o. option_and_then as_object (option_and_then (
     by_value None = refl
     by_value (Some d) = get_but metadata_names k d other
 
-pub marks_stay : (body : Data) → marks_validated (rest_seen body) ≡ marks_validated body
+pub marks_stay : (body : Data) → labels_and_annotations_validated (rest_seen body) ≡ labels_and_annotations_validated body
 marks_stay body =
     ap₂ (λ l a. and_then (if_there labels_validated l) (λ u. if_there annotations_validated a))
     (mark_stays (codes "labels") body refl) (mark_stays (codes "annotations") body refl)
 
-fails_then : {X Y : Type 0} (f : CallError) (j : Validated X) (g : X → Validated Y) → Fails f j → Fails f (and_then j g)
+fails_then : {X Y : Type 0} (f : CallError) (j : Validated X) (g : X → Validated Y) → FailsWith f j → FailsWith f (and_then j g)
 fails_then call_error.Memory j g h = tt
 fails_then (call_error.Refused d) j g h = ap (λ j. and_then j g) h
 
 -- a refusal of labels, as `?` hands it on
-pub marks_fail : (body : Data) (r : Result (Unit {0}) CallError) (e f : CallError) → r ≡ Err e → e ≡ f → Fails f (if_there labels_validated (metadata_object (codes "labels") body)) → Gives (λ u. u) r (marks_validated (rest_seen body))
+pub marks_fail : (body : Data) (r : Result (Unit {0}) CallError) (e f : CallError) → r ≡ Err e → e ≡ f → FailsWith f (if_there labels_validated (metadata_object (codes "labels") body)) → Returns (λ u. u) r (labels_and_annotations_validated (rest_seen body))
 marks_fail body r e f is same h =
-    subst (Gives (λ u. u) r) (sym (marks_stay body))
-    (subst (λ s. Gives (λ u. u) s (marks_validated body)) (sym is)
-    (subst (λ x. Fails x (marks_validated body)) (sym same) (fails_then f _ (λ u. if_there annotations_validated (metadata_object (codes "annotations") body)) h)))
+    subst (Returns (λ u. u) r) (sym (marks_stay body))
+    (subst (λ s. Returns (λ u. u) s (labels_and_annotations_validated body)) (sym is)
+    (subst (λ x. FailsWith x (labels_and_annotations_validated body)) (sym same) (fails_then f _ (λ u. if_there annotations_validated (metadata_object (codes "annotations") body)) h)))

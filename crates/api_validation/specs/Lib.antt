@@ -4,4 +4,4 @@ pub mod Options
 pub mod Parameters
 pub mod Shapes
 pub mod Size
-pub mod Seen
+pub mod Views

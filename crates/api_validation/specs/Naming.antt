@@ -43,19 +43,19 @@ if_there validated None = Ok tt
 if_there validated (Some ms) = validated ms
 
 -- the labels and annotations of a body
-abbrev pub marks_validated : Data → Validated (Unit {0})
-marks_validated body =
+abbrev pub labels_and_annotations_validated : Data → Validated (Unit {0})
+labels_and_annotations_validated body =
     and_then (if_there labels_validated (metadata_object (codes "labels") body)) (λ u.
     if_there annotations_validated (metadata_object (codes "annotations") body))
 
 -- those that a write gives: a status has none
-abbrev pub marks_validated_by : Subresource → Data → Validated (Unit {0})
-marks_validated_by Main body = marks_validated body
-marks_validated_by Status body = Ok tt
+abbrev pub labels_and_annotations_validated_by : Subresource → Data → Validated (Unit {0})
+labels_and_annotations_validated_by Main body = labels_and_annotations_validated body
+labels_and_annotations_validated_by Status body = Ok tt
 
 -- the object's name and namespace, then the body's labels and annotations
 abbrev pub names_validated : Subresource → List ℕ → List ℕ → Data → Validated (Unit {0})
-names_validated subresource namespace name body = and_then (path_validated namespace name) (λ u. marks_validated_by subresource body)
+names_validated subresource namespace name body = and_then (path_validated namespace name) (λ u. labels_and_annotations_validated_by subresource body)
 
 -- a creation has to name its object
 abbrev pub required_name : Option (List ℕ) → Validated (List ℕ)

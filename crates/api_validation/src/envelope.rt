@@ -9,8 +9,8 @@ ghost use Rattle.api_validation.specs.Envelope.{api_version_of, entries_validate
 ghost use Rattle.api_request.specs.declared.reason.Reason.TheVariants.{BadRequest};
 ghost use Rattle.typed.specs.Without.{omitted_of};
 ghost use Rattle.api_request.specs.Json.{IsJson};
-ghost use Rattle.api_request.specs.Seen.{RefusesFor, Gives};
-ghost use Rattle.api_validation.specs.Seen.{envelope_seen, envelope_with, expected_of, metadata_there};
+ghost use Rattle.api_request.specs.Views.{RefusesFor, Returns};
+ghost use Rattle.api_validation.specs.Views.{envelope_seen, envelope_with, expected_of, metadata_there};
 
 use api_request::{CallError, Method, Reason};
 use api_types::Served;
@@ -78,7 +78,7 @@ fn wrong_type(alloc: Global, path: &str, name: &str) -> CallError
     ensures { RefusesFor result BadRequest (path.now ++ (name.now ++ codes ": wrong type")) }
 {
     let message = format!(in alloc; "{path}{name}: wrong type");
-    CallError::told(alloc, Reason::BadRequest, message)
+    CallError::reported(alloc, Reason::BadRequest, message)
 }
 
 /// The member of an object that may be absent.
@@ -95,7 +95,7 @@ fn text_in<'a>(
     path: &str,
     name: &str,
 ) -> Result<Option<&'a str>, CallError>
-    ensures { Gives (option_map (λ s. s.now)) result (text_in path.now name.now (option_map (λ m. members_view m.now.entries) members.entry)) }
+    ensures { Returns (option_map (λ s. s.now)) result (text_in path.now name.now (option_map (λ m. members_view m.now.entries) members.entry)) }
 {
     let Some(value) = member_of(members, name) else {
         return Ok(None);
@@ -126,11 +126,11 @@ fn other_kind(alloc: Global, api_version: &str, kind: &str) -> CallError
     ensures { RefusesFor result BadRequest (kind_message api_version.now kind.now) }
 {
     let message = format!(in alloc; "apiVersion and kind must be {api_version} and {kind}");
-    CallError::told(alloc, Reason::BadRequest, message)
+    CallError::reported(alloc, Reason::BadRequest, message)
 }
 
 fn validate_kind(alloc: Global, served: &Served, top: &Map<String, Value>) -> Result<(), CallError>
-    ensures { Gives (λ u. u) result (kind_validated (types.served served.now) (members_view top.now.entries)) }
+    ensures { Returns (λ u. u) result (kind_validated (types.served served.now) (members_view top.now.entries)) }
 {
     let given_version = text_in(alloc, Some(top), ".", "apiVersion")?;
     let given_kind = text_in(alloc, Some(top), ".", "kind")?;
@@ -148,7 +148,7 @@ fn metadata_in<'a>(
     alloc: Global,
     member: Option<&'a Value>,
 ) -> Result<Option<&'a Map<String, Value>>, CallError>
-    ensures { Gives (option_map (λ m. members_view m.now.entries)) result (metadata_in (option_map (λ v. view v.now) member.entry)) }
+    ensures { Returns (option_map (λ m. members_view m.now.entries)) result (metadata_in (option_map (λ v. view v.now) member.entry)) }
 {
     let Some(value) = member else {
         return Ok(None);
@@ -167,7 +167,7 @@ fn must_be(alloc: Global, name: &str, wanted: &str) -> CallError
     ensures { RefusesFor result BadRequest (must_be name.now wanted.now) }
 {
     let message = format!(in alloc; "metadata.{name} must be {wanted}");
-    CallError::told(alloc, Reason::BadRequest, message)
+    CallError::reported(alloc, Reason::BadRequest, message)
 }
 
 /// What is given is that of the path, where the path has one.
@@ -177,7 +177,7 @@ fn validate_wanted(
     wanted: Option<&str>,
     given: Option<&str>,
 ) -> Result<(), CallError>
-    ensures { Gives (λ u. u) result (wanted_validated name.now (option_map (λ s. s.now) wanted.entry) (option_map (λ s. s.now) given.entry)) }
+    ensures { Returns (λ u. u) result (wanted_validated name.now (option_map (λ s. s.now) wanted.entry) (option_map (λ s. s.now) given.entry)) }
 {
     let Some(wanted) = wanted else {
         return Ok(());
@@ -195,7 +195,7 @@ fn validate_given(
     name: &str,
     wanted: Option<&str>,
 ) -> Result<(), CallError>
-    ensures { Gives (λ u. u) result (given_validated name.now (option_map (λ s. s.now) wanted.entry) (option_map (λ m. members_view m.now.entries) metadata.entry)) }
+    ensures { Returns (λ u. u) result (given_validated name.now (option_map (λ s. s.now) wanted.entry) (option_map (λ m. members_view m.now.entries) metadata.entry)) }
 {
     let given = text_in(alloc, metadata, IN_METADATA, name)?;
     validate_wanted(alloc, name, wanted, given)
@@ -205,7 +205,7 @@ fn validate_version(
     alloc: Global,
     metadata: Option<&Map<String, Value>>,
 ) -> Result<Option<u64>, CallError>
-    ensures { Gives (λ v. v) result (version_validated (option_map (λ m. members_view m.now.entries) metadata.entry)) }
+    ensures { Returns (λ v. v) result (version_validated (option_map (λ m. members_view m.now.entries) metadata.entry)) }
 {
     let Some(text) = text_in(alloc, metadata, IN_METADATA, "resourceVersion")? else {
         return Ok(None);
@@ -219,7 +219,7 @@ fn validate_version(
 
 /// A creation is of no version.
 fn allow_version(alloc: Global, method: Method, version: Option<u64>) -> Result<(), CallError>
-    ensures { Gives (λ u. u) result (version_allowed method version) }
+    ensures { Returns (λ u. u) result (version_allowed method version) }
 {
     if method != Method::Post || version.is_none() {
         return Ok(());
@@ -229,7 +229,7 @@ fn allow_version(alloc: Global, method: Method, version: Option<u64>) -> Result<
 }
 
 fn validate_entries(alloc: Global, entries: &[Value]) -> Result<(), CallError>
-    ensures { Gives (λ u. u) result (entries_validated (items_view entries.now)) }
+    ensures { Returns (λ u. u) result (entries_validated (items_view entries.now)) }
 {
     if entries.is_empty() {
         return Ok(());
@@ -240,7 +240,7 @@ fn validate_entries(alloc: Global, entries: &[Value]) -> Result<(), CallError>
 
 /// An apply's body may not say who owns what; what any other write says of it is ignored.
 fn validate_managers(alloc: Global, method: Method, member: Option<&Value>) -> Result<(), CallError>
-    ensures { Gives (λ u. u) result (managers_by method (option_map (λ v. view v.now) member.entry)) }
+    ensures { Returns (λ u. u) result (managers_by method (option_map (λ v. view v.now) member.entry)) }
 {
     if method != Method::Patch {
         return Ok(());
@@ -261,7 +261,7 @@ fn validate_metadata(
     expected: Expected<'_>,
     metadata: Option<&Map<String, Value>>,
 ) -> Result<Option<u64>, CallError>
-    ensures { (top : Members) → Gives (envelope_with top (option_map (λ m. members_view m.now.entries) metadata.entry)) result
+    ensures { (top : Members) → Returns (envelope_with top (option_map (λ m. members_view m.now.entries) metadata.entry)) result
         (metadata_validated (expected_of expected.entry) top (option_map (λ m. members_view m.now.entries) metadata.entry)) }
 {
     validate_given(alloc, metadata, "name", expected.name)?;
@@ -279,7 +279,7 @@ fn validate_object(
     top: &Map<String, Value>,
 ) -> Result<Option<u64>, CallError>
     ensures { let top = members_view top.now.entries in
-        Gives (envelope_with top (metadata_there top)) result (object_validated (expected_of expected.entry) (Some top)) }
+        Returns (envelope_with top (metadata_there top)) result (object_validated (expected_of expected.entry) (Some top)) }
 {
     validate_kind(alloc, expected.served, top)?;
     let metadata = metadata_in(alloc, member(top, "metadata"))?;
@@ -301,7 +301,7 @@ pub fn validate(
     expected: Expected<'_>,
 ) -> Result<Option<u64>, CallError>
     requires json { IsJson (view body.now) }
-    ensures { Gives (envelope_seen (view body.now)) result (envelope_of (expected_of expected.entry) (view body.now)) }
+    ensures { Returns (envelope_seen (view body.now)) result (envelope_of (expected_of expected.entry) (view body.now)) }
 {
     match body {
         Value::Object(top) => validate_object(alloc, expected, top),

@@ -15,7 +15,7 @@ mod reading;
 mod size;
 
 pub use envelope::{Expected, api_version_of, name_in, validate};
-pub use naming::{require_name, validate_marks_by, validate_names};
+pub use naming::{require_name, validate_labels_and_annotations_by, validate_names};
 pub use options::validate_options;
 pub use parameters::read_parameters;
 pub use reading::read_config;

@@ -5,9 +5,9 @@ ghost use Rattle.serde_json.specs.View.{members_view, view};
 ghost use Rattle.history.specs.Read.{key_of};
 ghost use Rattle.api_request.specs.declared.reason.Reason.TheVariants.{Invalid};
 ghost use Rattle.api_request.specs.Validated.{require};
-ghost use Rattle.api_validation.specs.Naming.{annotation_validated, annotations_validated, if_there, label_validated, labels_validated, marks_validated, marks_validated_by, metadata_object, names_validated, path_validated, required_name};
-ghost use Rattle.api_request.specs.Seen.{Gives};
-ghost use Rattle.api_validation.specs.Seen.{rest_seen};
+ghost use Rattle.api_validation.specs.Naming.{annotation_validated, annotations_validated, if_there, label_validated, labels_validated, labels_and_annotations_validated, labels_and_annotations_validated_by, metadata_object, names_validated, path_validated, required_name};
+ghost use Rattle.api_request.specs.Views.{Returns};
+ghost use Rattle.api_validation.specs.Views.{rest_seen};
 
 use api_request::{CallError, Reason};
 use history::Key;
@@ -18,7 +18,7 @@ use std::alloc::Global;
 
 /// A refusal, unless the test holds.
 pub fn require(alloc: Global, is_good: bool, message: &str) -> Result<(), CallError>
-    ensures { Gives (λ u. u) result (require is_good Invalid message.now) }
+    ensures { Returns (λ u. u) result (require is_good Invalid message.now) }
 {
     if is_good {
         return Ok(());
@@ -27,7 +27,7 @@ pub fn require(alloc: Global, is_good: bool, message: &str) -> Result<(), CallEr
 }
 
 fn validate_path(alloc: Global, namespace: &str, name: &str) -> Result<(), CallError>
-    ensures { Gives (λ u. u) result (path_validated namespace.now name.now) }
+    ensures { Returns (λ u. u) result (path_validated namespace.now name.now) }
 {
     require(alloc, is_dns_subdomain(name), "metadata.name: bad name")?;
     require(
@@ -38,7 +38,7 @@ fn validate_path(alloc: Global, namespace: &str, name: &str) -> Result<(), CallE
 }
 
 fn validate_label(alloc: Global, key: &str, member: &Value) -> Result<(), CallError>
-    ensures { Gives (λ u. u) result (label_validated key.now (view member.now)) }
+    ensures { Returns (λ u. u) result (label_validated key.now (view member.now)) }
 {
     match member {
         Value::String(value) => {
@@ -54,7 +54,7 @@ fn validate_label(alloc: Global, key: &str, member: &Value) -> Result<(), CallEr
 }
 
 fn validate_annotation(alloc: Global, key: &str, member: &Value) -> Result<(), CallError>
-    ensures { Gives (λ u. u) result (annotation_validated key.now (view member.now)) }
+    ensures { Returns (λ u. u) result (annotation_validated key.now (view member.now)) }
 {
     match member {
         Value::String(_) => require(alloc, is_label_key(key), "metadata.annotations: bad key"),
@@ -64,7 +64,7 @@ fn validate_annotation(alloc: Global, key: &str, member: &Value) -> Result<(), C
 
 /// Labels in the order of their keys, each key before its value.
 fn validate_labels(alloc: Global, labels: &Map<String, Value>) -> Result<(), CallError>
-    ensures { Gives (λ u. u) result (labels_validated (members_view labels.now.entries)) }
+    ensures { Returns (λ u. u) result (labels_validated (members_view labels.now.entries)) }
 {
     for (key, member) in labels.iter() {
         validate_label(alloc, key.as_str(), member)?;
@@ -74,7 +74,7 @@ fn validate_labels(alloc: Global, labels: &Map<String, Value>) -> Result<(), Cal
 
 /// Annotations in the order of their keys.
 fn validate_annotations(alloc: Global, annotations: &Map<String, Value>) -> Result<(), CallError>
-    ensures { Gives (λ u. u) result (annotations_validated (members_view annotations.now.entries)) }
+    ensures { Returns (λ u. u) result (annotations_validated (members_view annotations.now.entries)) }
 {
     for (key, member) in annotations.iter() {
         validate_annotation(alloc, key.as_str(), member)?;
@@ -90,7 +90,7 @@ pub fn metadata_object<'a>(body: &'a Value, name: &str) -> Option<&'a Map<String
 }
 
 fn validate_labels_of(alloc: Global, body: &Value) -> Result<(), CallError>
-    ensures { Gives (λ u. u) result (if_there labels_validated (metadata_object (codes "labels") (view body.now))) }
+    ensures { Returns (λ u. u) result (if_there labels_validated (metadata_object (codes "labels") (view body.now))) }
 {
     match metadata_object(body, "labels") {
         Some(labels) => validate_labels(alloc, labels),
@@ -99,7 +99,7 @@ fn validate_labels_of(alloc: Global, body: &Value) -> Result<(), CallError>
 }
 
 fn validate_annotations_of(alloc: Global, body: &Value) -> Result<(), CallError>
-    ensures { Gives (λ u. u) result (if_there annotations_validated (metadata_object (codes "annotations") (view body.now))) }
+    ensures { Returns (λ u. u) result (if_there annotations_validated (metadata_object (codes "annotations") (view body.now))) }
 {
     match metadata_object(body, "annotations") {
         Some(annotations) => validate_annotations(alloc, annotations),
@@ -108,30 +108,30 @@ fn validate_annotations_of(alloc: Global, body: &Value) -> Result<(), CallError>
 }
 
 /// The labels and annotations of a body, which are no part of its envelope.
-fn validate_marks(alloc: Global, body: &Value) -> Result<(), CallError>
-    ensures { Gives (λ u. u) result (marks_validated (rest_seen (view body.now))) }
+fn validate_labels_and_annotations(alloc: Global, body: &Value) -> Result<(), CallError>
+    ensures { Returns (λ u. u) result (labels_and_annotations_validated (rest_seen (view body.now))) }
 {
     validate_labels_of(alloc, body)?;
     validate_annotations_of(alloc, body)
 }
 
 /// Those that a write gives: a status has none.
-pub fn validate_marks_by(
+pub fn validate_labels_and_annotations_by(
     alloc: Global,
     subresource: Subresource,
     body: &Value,
 ) -> Result<(), CallError>
-    ensures { Gives (λ u. u) result (marks_validated_by subresource (rest_seen (view body.now))) }
+    ensures { Returns (λ u. u) result (labels_and_annotations_validated_by subresource (rest_seen (view body.now))) }
 {
     match subresource {
-        Subresource::Main => validate_marks(alloc, body),
+        Subresource::Main => validate_labels_and_annotations(alloc, body),
         Subresource::Status => Ok(()),
     }
 }
 
 /// A creation has to name its object.
 pub fn require_name<'a>(alloc: Global, name: Option<&'a str>) -> Result<&'a str, CallError>
-    ensures { Gives (λ s. s.now) result (required_name (option_map (λ s. s.now) name.entry)) }
+    ensures { Returns (λ s. s.now) result (required_name (option_map (λ s. s.now) name.entry)) }
 {
     match name {
         Some(name) => Ok(name),
@@ -146,8 +146,8 @@ pub fn validate_names(
     key: &Key,
     body: &Value,
 ) -> Result<(), CallError>
-    ensures { Gives (λ u. u) result (names_validated subresource (key_of key.now).namespace (key_of key.now).name (rest_seen (view body.now))) }
+    ensures { Returns (λ u. u) result (names_validated subresource (key_of key.now).namespace (key_of key.now).name (rest_seen (view body.now))) }
 {
     validate_path(alloc, key.namespace.as_str(), key.name.as_str())?;
-    validate_marks_by(alloc, subresource, body)
+    validate_labels_and_annotations_by(alloc, subresource, body)
 }

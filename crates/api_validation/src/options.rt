@@ -5,7 +5,7 @@ ghost use Rattle.std.specs.Prelude.{◌≡◌, codes, option_map};
 ghost use Rattle.serde_json.specs.View.{items_view, members_view, view};
 ghost use Rattle.api_request.specs.declared.reason.Reason.TheVariants.{BadRequest};
 ghost use Rattle.api_validation.specs.Options.{is_blank, is_no_list, options_in, options_validated, preconditions_in, preconditions_read, text_in};
-ghost use Rattle.api_request.specs.Seen.{RefusesFor, Gives, body_seen};
+ghost use Rattle.api_request.specs.Views.{RefusesFor, Returns, body_seen};
 
 use api_request::{Body, CallError, Reason};
 use json_values::{member, unless_empty};
@@ -42,7 +42,7 @@ fn is_blank(member: Option<&Value>) -> bool
 
 /// The text of a member; none where it is absent, null or the empty text.
 fn text_in<'a>(alloc: Global, member: Option<&'a Value>) -> Result<Option<&'a str>, CallError>
-    ensures { Gives (option_map (λ s. s.now)) result (text_in (option_map (λ v. view v.now) member.entry)) }
+    ensures { Returns (option_map (λ s. s.now)) result (text_in (option_map (λ v. view v.now) member.entry)) }
 {
     let Some(value) = member else {
         return Ok(None);
@@ -56,7 +56,7 @@ fn text_in<'a>(alloc: Global, member: Option<&'a Value>) -> Result<Option<&'a st
 
 /// The version that the object has to have.
 fn read_preconditions(alloc: Global, members: &Map<String, Value>) -> Result<Option<u64>, CallError>
-    ensures { Gives (λ v. v) result (preconditions_read (members_view members.now.entries)) }
+    ensures { Returns (λ v. v) result (preconditions_read (members_view members.now.entries)) }
 {
     let uid = text_in(alloc, member(members, "uid"))?;
     if uid.is_some() {
@@ -72,7 +72,7 @@ fn read_preconditions(alloc: Global, members: &Map<String, Value>) -> Result<Opt
 }
 
 fn preconditions_in(alloc: Global, member: Option<&Value>) -> Result<Option<u64>, CallError>
-    ensures { Gives (λ v. v) result (preconditions_in (option_map (λ v. view v.now) member.entry)) }
+    ensures { Returns (λ v. v) result (preconditions_in (option_map (λ v. view v.now) member.entry)) }
 {
     let Some(value) = member else {
         return Ok(None);
@@ -85,7 +85,7 @@ fn preconditions_in(alloc: Global, member: Option<&Value>) -> Result<Option<u64>
 }
 
 fn options_in(alloc: Global, members: &Map<String, Value>) -> Result<Option<u64>, CallError>
-    ensures { Gives (λ v. v) result (options_in (Some (members_view members.now.entries))) }
+    ensures { Returns (λ v. v) result (options_in (Some (members_view members.now.entries))) }
 {
     if !is_blank(member(members, "dryRun")) {
         return Err(bad_options(alloc));
@@ -95,7 +95,7 @@ fn options_in(alloc: Global, members: &Map<String, Value>) -> Result<Option<u64>
 
 /// The version that a deletion's body asks for, if any.
 pub fn validate_options(alloc: Global, body: Option<&Body>) -> Result<Option<u64>, CallError>
-    ensures { Gives (λ v. v) result (options_validated (option_map (λ b. body_seen b.now) body.entry)) }
+    ensures { Returns (λ v. v) result (options_validated (option_map (λ b. body_seen b.now) body.entry)) }
 {
     let Some(body) = body else {
         return Ok(None);

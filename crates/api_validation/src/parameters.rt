@@ -2,7 +2,7 @@
 
 ghost use Rattle.params.specs.Views.{values_of};
 ghost use Rattle.api_validation.specs.Parameters.{bad_parameter, parameters_validated};
-ghost use Rattle.api_request.specs.Seen.{Gives, Refuses};
+ghost use Rattle.api_request.specs.Views.{Returns, Refuses};
 
 use api_request::{CallError, Reason};
 use params::{Asked, BAD_MANAGER, Parameter, Params, ParamsFault};
@@ -16,14 +16,14 @@ fn bad_parameter(alloc: Global, parameter: Parameter) -> CallError
         Parameter::FieldManager => CallError::refused_for(alloc, Reason::Invalid, BAD_MANAGER),
         other => {
             let message = ParamsFault::Bad(other).to_string(alloc);
-            CallError::told(alloc, Reason::BadRequest, message)
+            CallError::reported(alloc, Reason::BadRequest, message)
         }
     }
 }
 
 /// The parameters of a call.
 pub fn read_parameters(alloc: Global, asked: Asked, query: &[u8]) -> Result<Params, CallError>
-    ensures { Gives values_of result (parameters_validated asked query.now) }
+    ensures { Returns values_of result (parameters_validated asked query.now) }
 {
     match Params::read(alloc, asked, query) {
         Ok(params) => Ok(params),

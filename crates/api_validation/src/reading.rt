@@ -5,8 +5,8 @@ ghost use Rattle.serde_json.specs.View.{view};
 ghost use Rattle.api_types.specs.Served as types;
 ghost use Rattle.typed.specs.Faults.{cause_text};
 ghost use Rattle.typed.specs.Reading.{content_of};
-ghost use Rattle.api_request.specs.Seen.{Gives, RefusesFor};
-ghost use Rattle.api_validation.specs.Seen.{rest_seen};
+ghost use Rattle.api_request.specs.Views.{Returns, RefusesFor};
+ghost use Rattle.api_validation.specs.Views.{rest_seen};
 ghost use Rattle.api_validation.specs.Shapes.{fault_reason, shape_validated};
 
 use crate::envelope::left_out;
@@ -28,7 +28,7 @@ fn fault_reason(cause: Cause) -> Reason
 fn shape_fault(alloc: Global, cause: Cause, path: &str) -> CallError
     ensures { RefusesFor result (fault_reason cause) (path.now ++ (codes ": " ++ cause_text cause)) }
 {
-    CallError::told(
+    CallError::reported(
         alloc,
         fault_reason(cause),
         format!(in alloc; "{path}: {cause}"),
@@ -37,7 +37,7 @@ fn shape_fault(alloc: Global, cause: Cause, path: &str) -> CallError
 
 /// The content of a body without its envelope, under the type's schema, or the first fault in its shape.
 pub fn read_config(alloc: Global, served: &Served, body: &Value) -> Result<Tree, CallError>
-    ensures { Gives (λ t. t) result (shape_validated (content_of (types.served served.now).shape (rest_seen (view body.now)))) }
+    ensures { Returns (λ t. t) result (shape_validated (content_of (types.served served.now).shape (rest_seen (view body.now)))) }
 {
     match Tree::read_without(&served.schema, alloc, body, left_out()) {
         Ok(tree) => Ok(tree),

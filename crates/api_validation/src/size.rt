@@ -5,7 +5,7 @@ ghost use Rattle.std.specs.Prelude.{◌≡◌, codes};
 ghost use Rattle.serde_json.specs.Data.{Data};
 ghost use Rattle.serde_json.specs.Written.{compact_text};
 ghost use Rattle.api_validation.specs.Naming.{metadata_object};
-ghost use Rattle.api_request.specs.Seen.{Gives};
+ghost use Rattle.api_request.specs.Views.{Returns};
 ghost use Rattle.api_validation.specs.Size.{count_if_there, size_validated};
 
 use crate::naming::require;
@@ -20,7 +20,7 @@ const MAX_BYTES: usize = 1_048_576;
 
 /// The limits of an object of so many labels and of this text.
 pub fn validate_size(alloc: Global, labels: usize, text: &str) -> Result<(), CallError>
-    ensures { (object : Data) → text.now ≡ compact_text object → labels ≡ count_if_there (metadata_object (codes "labels") object) → Gives (λ u. u) result (size_validated object) }
+    ensures { (object : Data) → text.now ≡ compact_text object → labels ≡ count_if_there (metadata_object (codes "labels") object) → Returns (λ u. u) result (size_validated object) }
 {
     require(alloc, labels <= MAX_LABELS, "metadata.labels: more than 64")?;
     require(alloc, text.len() <= MAX_BYTES, "object over 1048576 bytes")

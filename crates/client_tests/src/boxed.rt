@@ -13,7 +13,7 @@ use reflector::Informer;
 use std::alloc::{AllocError, Global};
 use std::mem;
 use std::test::Fail;
-use test_rows::{expect_text, told};
+use test_rows::{expect_text, in_words};
 
 /// By the value of a label; an object without the label has no key.
 #[derive(Drop)]
@@ -67,7 +67,7 @@ fn fed<I: IndexBy + Drop>(
     informer.next_request()?;
     informer.feed(replies(alloc, words)?.as_bytes())?;
     let indexer = informer.indexer();
-    told(
+    in_words(
         alloc,
         (
             indexer.by_index("tier", "web"),

@@ -18,12 +18,12 @@ mod pages;
 #[cfg(test)]
 mod playing;
 #[cfg(test)]
+mod relist_reasons;
+#[cfg(test)]
 mod replies;
 #[cfg(test)]
 mod starting;
 #[cfg(test)]
 mod summing;
-#[cfg(test)]
-mod troubles;
 #[cfg(test)]
 mod watches;

@@ -4,7 +4,7 @@
 use crate::mirrors::Server;
 use crate::playing::{Namespace, expect_rows};
 use mirroring::Dial;
-use reflector::{Informer, Trouble};
+use reflector::{Informer, RelistReason};
 use std::alloc::Global;
 use std::test::Fail;
 use summary::Summary;
@@ -17,13 +17,13 @@ fn follow<D: Dial>(
     server: &mut D,
     informer: &mut Informer<Namespace>,
     summary: &mut Summary,
-) -> Result<Option<Trouble>, Fail> {
+) -> Result<Option<RelistReason>, Fail> {
     let Some(request) = informer.next_request()? else {
         return Ok(None);
     };
     let mut connection = server.dial(&request).map_err(|_| "no connection")?;
     'pieces: for _ in 0..u64::MAX {
-        if !informer.is_asking() {
+        if !informer.is_awaiting_reply() {
             break;
         }
         match read_piece(alloc, &mut connection) {
@@ -35,7 +35,7 @@ fn follow<D: Dial>(
             summary.note(notice)?;
         }
     }
-    Ok(informer.trouble())
+    Ok(informer.relist_reason())
 }
 
 /// The revision that is reported after each of these connections, and where the caller waits.
@@ -48,8 +48,8 @@ pub fn followed(
 ) -> Result<String, Fail> {
     let mut text = String::new(alloc);
     for _ in 0..turns {
-        let trouble = follow(alloc, server, informer, summary)?;
-        push_turn(alloc, &mut text, informer.revision(), trouble)?;
+        let relist_reason = follow(alloc, server, informer, summary)?;
+        push_turn(alloc, &mut text, informer.revision(), relist_reason)?;
     }
     Ok(text)
 }
@@ -58,13 +58,13 @@ fn push_turn(
     alloc: Global,
     text: &mut String,
     revision: Option<u64>,
-    trouble: Option<Trouble>,
+    relist_reason: Option<RelistReason>,
 ) -> Result<(), Fail> {
     if let Some(revision) = revision {
         text.push_str(format!(in alloc; "at {revision};")?.as_str())?;
     }
-    if let Some(trouble) = trouble {
-        text.push_str(format!(in alloc; "{trouble}: waits;")?.as_str())?;
+    if let Some(relist_reason) = relist_reason {
+        text.push_str(format!(in alloc; "{relist_reason}: waits;")?.as_str())?;
     }
     Ok(())
 }

@@ -10,7 +10,7 @@ use std::alloc::Global;
 use std::io;
 use std::io::{ErrorKind, Write};
 use std::test::Fail;
-use test_rows::{Answers, expect_text, first_word, number, play_all, told};
+use test_rows::{Answers, expect_text, first_word, in_words, number, play_all};
 
 /// One type.
 const WIDGETS: &str =
@@ -62,7 +62,7 @@ impl Answers for Programs {
         let (call, words) = first_word(question);
         match call {
             "options" => shown(alloc, words),
-            _ => told(
+            _ => in_words(
                 alloc,
                 printed(alloc, &options_of(words)?, usize::MAX, usize::MAX)?,
             ),
@@ -74,7 +74,7 @@ fn shown(alloc: Global, words: &str) -> Result<String, Fail> {
     let words = format!(in alloc; "ssa-mirror --types t {words}")?;
     let words: Vec<&str> = words.split(' ').collect(alloc)?;
     match options(alloc, words.as_slice()) {
-        Ok(found) => told(alloc, found),
+        Ok(found) => in_words(alloc, found),
         Err(fault) => ended(alloc, Err(fault)),
     }
 }
@@ -133,7 +133,7 @@ fn printed(
 /// Of words that are read, each option; of others, the exit status and what is told. What can't be mirrored ends with status
 /// 2 and prints nothing. Three connections are all told; a fourth, which can't be dialled, is status 6 after them.
 #[test]
-fn programs_are_told(rt: HostRuntime) -> Result<(), Fail> {
+fn programs_are_reported(rt: HostRuntime) -> Result<(), Fail> {
     let rows = r#"arguments_are_read
 options --port 8001 --type g/v/p => MirrorOptions { types: "t", port: 8001, resource: Resource { group: "g", version: "v", plural: "p" }, namespace: None, selector: "", page: 500, turns: 18446744073709551615 }
 options --port 65535 --type /v/ --namespace default --selector a=b --page 4294967295 --turns 7 => MirrorOptions { types: "t", port: 65535, resource: Resource { group: "", version: "v", plural: "" }, namespace: Some("default"), selector: "a=b", page: 4294967295, turns: 7 }
@@ -159,7 +159,7 @@ print 4 500 - widgets  => ("synced 6\nadded default/w1 2\nadded default/w2 3\nad
     play_all(rt.alloc(), &mut Programs, rows)
 }
 
-/// The test fails unless what is printed is a front of all, and ends so, or is all and ends well. Whether it is all.
+/// The test fails unless what is printed is a prefix of all, and ends so, or is all and ends well. Whether it is all.
 fn is_all(printed: (String, String), wanted: &str) -> Result<bool, Fail> {
     let (text, end) = printed;
     if text.as_str() == PRINTED {
@@ -173,9 +173,9 @@ fn is_all(printed: (String, String), wanted: &str) -> Result<bool, Fail> {
     Ok(false)
 }
 
-/// An output that takes so many writes and then fails has a front of what is printed, and ends it with status 1.
+/// An output that takes so many writes and then fails has a prefix of what is printed, and ends it with status 1.
 #[test]
-fn outputs_that_fail_keep_a_front(rt: HostRuntime) -> Result<(), Fail> {
+fn outputs_that_fail_keep_a_prefix(rt: HostRuntime) -> Result<(), Fail> {
     let options = options_of("3 500 - widgets ")?;
     for writes in 0..1000 {
         let printed = printed(rt.alloc(), &options, usize::MAX, writes)?;

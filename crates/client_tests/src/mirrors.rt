@@ -2,17 +2,17 @@
 //! `replies`, the informer in `playing`.
 //!
 //! `mirror TURNS REPLIES|REPLIES`: how so many turns of a mirror end, what is printed of them, how often the dialer was told of
-//! trouble, and of which last. `turns TURNS REPLIES|REPLIES`: the trouble that a caller sees who takes turn after turn.
+//! trouble, and of which last. `turns TURNS REPLIES|REPLIES`: the relist reason that a caller sees who takes turn after turn.
 
 use crate::playing::{Namespace, expect_rows};
 use crate::replies::replies;
 use mirroring::{Dial, MirrorFault, mirror, turn};
-use reflector::{Informer, Trouble};
+use reflector::{Informer, RelistReason};
 use std::alloc::{AllocError, Global};
 use std::io::{ErrorKind, Read};
 use std::test::Fail;
 use std::{cmp, io};
-use test_rows::told;
+use test_rows::in_words;
 
 /// The most bytes that are read at a time.
 const MOST: usize = 7;
@@ -50,7 +50,7 @@ pub struct Server {
     /// How many reads succeed at most, of all connections.
     pub reads: usize,
     times: u64,
-    trouble: Option<Trouble>,
+    relist_reason: Option<RelistReason>,
 }
 
 impl Dial for Server {
@@ -71,9 +71,9 @@ impl Dial for Server {
         })
     }
 
-    fn given_up(&mut self, trouble: Trouble) {
+    fn given_up(&mut self, relist_reason: RelistReason) {
         self.times = self.times.saturating_add(1);
-        self.trouble = Some(trouble);
+        self.relist_reason = Some(relist_reason);
     }
 }
 
@@ -89,7 +89,7 @@ pub fn server_of(alloc: Global, words: &str) -> Result<Server, Fail> {
         at: 0,
         reads: usize::MAX,
         times: 0,
-        trouble: None,
+        relist_reason: None,
     })
 }
 
@@ -101,7 +101,7 @@ fn ending(done: &Result<(), MirrorFault>) -> &'static str {
     }
 }
 
-/// How so many turns of a mirror end, what is printed of them, how often the dialer was told of trouble, and of which last.
+/// How so many turns of a mirror end, what is printed of them, how often the dialer was told of relist reasons, and of which last.
 pub fn mirrored(
     alloc: Global,
     server: &mut Server,
@@ -111,13 +111,18 @@ pub fn mirrored(
     let mut out = Vec::new(alloc);
     let done = mirror(alloc, server, informer, &mut out, turns);
     let end = ending(&done);
-    told(
+    in_words(
         alloc,
-        (end, str::from_utf8(&out), server.times, server.trouble),
+        (
+            end,
+            str::from_utf8(&out),
+            server.times,
+            server.relist_reason,
+        ),
     )
 }
 
-/// What a caller of so many turns sees of trouble.
+/// What a caller of so many turns sees of relist reasons.
 pub fn troubled(
     alloc: Global,
     server: &mut Server,
@@ -128,7 +133,7 @@ pub fn troubled(
     let mut text = String::new(alloc);
     for _ in 0..turns {
         let done = turn(alloc, server, informer, &mut out);
-        push_turn(alloc, &mut text, done.is_ok(), informer.trouble())?;
+        push_turn(alloc, &mut text, done.is_ok(), informer.relist_reason())?;
     }
     Ok(text)
 }
@@ -137,10 +142,12 @@ fn push_turn(
     alloc: Global,
     text: &mut String,
     is_done: bool,
-    trouble: Option<Trouble>,
+    relist_reason: Option<RelistReason>,
 ) -> Result<(), AllocError> {
-    match trouble {
-        Some(trouble) if is_done => text.push_str(format!(in alloc; "{trouble};")?.as_str()),
+    match relist_reason {
+        Some(relist_reason) if is_done => text.push_str(format!(in alloc;
+            "{relist_reason};"
+        )?.as_str()),
         None if is_done => Ok(()),
         _ => text.push_str("a fault;"),
     }
@@ -160,8 +167,8 @@ mirror 7 page 6 6.default.w2 w1@2 w2@3|page 6 - w3@4|watch;line MODIFIED w1@7,re
 
 /// A dialer is told of each reply that was given up, and of no cut; and who takes turn after turn sees the same.
 #[test]
-fn dialers_are_told_of_trouble(rt: HostRuntime) -> Result<(), Fail> {
-    let rows = r#"dialers_are_told_of_trouble
+fn dialers_learn_relist_reasons(rt: HostRuntime) -> Result<(), Fail> {
+    let rows = r#"dialers_learn_relist_reasons
 mirror 0 status 400 Bad Request|page 6 - w1@2|watch;half MODIFIED w1@7|status 410 Gone|page 12 - w1@8|watch;end => ("done", Ok(""), 0, None)
 mirror 1 status 400 Bad Request|page 6 - w1@2|watch;half MODIFIED w1@7|status 410 Gone|page 12 - w1@8|watch;end => ("done", Ok(""), 1, Some(Status(400)))
 mirror 3 status 400 Bad Request|page 6 - w1@2|watch;half MODIFIED w1@7|status 410 Gone|page 12 - w1@8|watch;end => ("done", Ok("synced 6\nadded default/w1 2\n"), 1, Some(Status(400)))

@@ -9,7 +9,7 @@ use std::alloc::{AllocError, Global};
 use std::mem;
 use std::test::Fail;
 use summary::Summary;
-use test_rows::{Answers, expect_text, first_word, mark, number, play, told};
+use test_rows::{Answers, expect_text, first_word, in_words, mark, number, play};
 
 /// By the object's namespace.
 #[derive(Drop)]
@@ -83,7 +83,7 @@ impl Answers for Play {
     /// | `counts`, `apply` | what the summary says |
     /// | `after A;B <- C;D` | what stands after these replies, and what is asked then |
     /// | `why A;B <- C;D` | why the reply was given up, after these |
-    /// | `fronts A;B <- C;D` | as `after`, of each front of the bytes of C and D and a cut: each answer where it first comes |
+    /// | `fronts A;B <- C;D` | as `after`, of each prefix of the bytes of C and D and a cut: each answer where it first comes |
     /// | `cuts A;B <- C;D` | the same of these bytes in two pieces, wherever they are cut, behind why the reply was given up |
     /// | `marked S\|T: A;B <- C;D` | what stands after A and B in one piece between the marks of refused memory, and which objects; where it is refused, S or T stands, a first page is asked, and C and D lead to the same |
     /// | `mirror`, `turns`, `follow` | as `mirrors` and `looping` say |
@@ -92,7 +92,7 @@ impl Answers for Play {
         let (word, rest) = first_word(question);
         match word {
             "ask" => ask(alloc, &mut self.informer),
-            "counts" => told(alloc, self.summary.counts()),
+            "counts" => in_words(alloc, self.summary.counts()),
             "apply" => apply(alloc, &self.summary),
             "after" => {
                 self.replay(alloc, rest)?;
@@ -100,7 +100,7 @@ impl Answers for Play {
             }
             "why" => {
                 self.replay(alloc, rest)?;
-                told(alloc, self.informer.trouble())
+                in_words(alloc, self.informer.relist_reason())
             }
             "fronts" | "cuts" => self.cut(alloc, word, rest),
             "marked" => self.marked(alloc, rest),
@@ -195,10 +195,10 @@ impl Play {
 
     /// Why the reply was given up, before its connection ends, and what stands then.
     fn gives_up_and_asks(&mut self, alloc: Global) -> Result<String, Fail> {
-        let trouble = self.informer.trouble();
+        let relist_reason = self.informer.relist_reason();
         self.informer.closed();
         let text = self.stands_and_asks(alloc)?;
-        Ok(format!(in alloc; "{trouble:?} {text}")?)
+        Ok(format!(in alloc; "{relist_reason:?} {text}")?)
     }
 
     fn cut(&mut self, alloc: Global, word: &str, words: &str) -> Result<String, Fail> {
@@ -208,8 +208,8 @@ impl Play {
         let mut last = String::new(alloc);
         for n in 0..text.len() + 1 {
             self.begin(alloc, events)?;
-            let (front, back) = text.as_bytes().split_at(n);
-            self.informer.feed(front)?;
+            let (prefix, back) = text.as_bytes().split_at(n);
+            self.informer.feed(prefix)?;
             let next = if word == "cuts" {
                 self.informer.feed(back)?;
                 self.gives_up_and_asks(alloc)?
@@ -248,7 +248,10 @@ impl Play {
         if !standings.split('|').any(|it| it == standing.as_str()) {
             return Err(Fail::new(standing));
         }
-        expect_text(told(alloc, self.informer.trouble())?, "Some(OutOfMemory)")?;
+        expect_text(
+            in_words(alloc, self.informer.relist_reason())?,
+            "Some(OutOfMemory)",
+        )?;
         expect_text(ask(alloc, &mut self.informer)?, "/widgets?limit=2")
     }
 }
@@ -257,7 +260,7 @@ impl Play {
 fn standing(alloc: Global, informer: &Informer<Namespace>) -> Result<String, Fail> {
     let indexer = informer.indexer();
     let all = indexer.by_index("namespace", "default");
-    told(
+    in_words(
         alloc,
         (
             informer.revision(),
@@ -295,9 +298,9 @@ fn push_named(text: &mut String, sign: &str, object: &Object) -> Result<(), Allo
 
 /// The request that is due. Whether one is under way is told before, and one is then.
 fn due(informer: &mut Informer<Namespace>) -> Result<Option<Vec<u8>>, Fail> {
-    let was_asking = informer.is_asking();
+    let was_awaiting_reply = informer.is_awaiting_reply();
     let request = informer.next_request()?;
-    if request.is_some() == was_asking || !informer.is_asking() {
+    if request.is_some() == was_awaiting_reply || !informer.is_awaiting_reply() {
         return Err("told another state".into());
     }
     Ok(request)

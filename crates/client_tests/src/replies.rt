@@ -33,10 +33,10 @@ pub fn replies(alloc: Global, words: &str) -> Result<String, Fail> {
     Ok(text)
 }
 
-/// The front of a line's chunk, up to its first `resourceVersion`.
+/// The prefix of a line's chunk, up to its first `resourceVersion`.
 fn half(alloc: Global, text: &str) -> Result<String, Fail> {
-    let (front, _) = text.split_once("resourceVersion").ok_or("no version")?;
-    Ok(String::from_str(alloc, front)?)
+    let (prefix, _) = text.split_once("resourceVersion").ok_or("no version")?;
+    Ok(String::from_str(alloc, prefix)?)
 }
 
 /// A reply with this body.

@@ -4,7 +4,7 @@
 use crate::playing::{ask, informer};
 use std::alloc::Global;
 use std::test::Fail;
-use test_rows::{Answers, first_word, play_all, told};
+use test_rows::{Answers, first_word, in_words, play_all};
 
 /// `PAGE NAMESPACE`: the first target, or why the settings are refused.
 #[derive(Drop)]
@@ -17,7 +17,7 @@ impl Answers for Settings {
         let namespace = Some(String::from_str(alloc, namespace)?);
         match informer(alloc, page, namespace, "a=b,c!=d")? {
             Ok(mut made) => ask(alloc, &mut made),
-            Err(fault) => told(alloc, fault),
+            Err(fault) => in_words(alloc, fault),
         }
     }
 }

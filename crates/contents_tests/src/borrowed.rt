@@ -17,7 +17,7 @@ use json::{Scratch, Value};
 use schema::Schema;
 use std::alloc::Global;
 use std::test::Fail;
-use test_rows::told;
+use test_rows::in_words;
 use typed::{ReadFault, Tree};
 
 fn copied(alloc: Global, value: &Value<'_>) -> Result<String, Fail>
@@ -41,7 +41,7 @@ fn set(alloc: Global, schema: &Schema, value: &Value<'_>) -> Result<String, Fail
 {
     match FieldSet::from_borrowed(alloc, schema, value) {
         Ok(paths) => written(alloc, schema, &paths),
-        Err(fault) => told(alloc, fault),
+        Err(fault) => in_words(alloc, fault),
     }
 }
 

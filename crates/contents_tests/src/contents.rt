@@ -24,7 +24,7 @@ use schema::Schema;
 use serde_json::Value;
 use std::alloc::Global;
 use std::test::Fail;
-use test_rows::{Answers, first_word, play_all, told};
+use test_rows::{Answers, first_word, in_words, play_all};
 use typed::{ReadFault, Tree};
 
 /// Contents under the first schema of a types file.
@@ -51,8 +51,8 @@ pub fn play_under(alloc: Global, types: &str, examples: &str) -> Result<(), Fail
 pub fn answer_under(alloc: Global, schema: &Schema, question: &str) -> Result<String, Fail> {
     let (call, text) = first_word(question);
     match call {
-        "lawful" => told(alloc, is_lawful(schema)),
-        "place" => placed(alloc, schema, text),
+        "lawful" => in_words(alloc, is_lawful(schema)),
+        "place" => located(alloc, schema, text),
         "read" => read(alloc, schema, text),
         "paths" => paths(alloc, schema, text),
         "print" => print(alloc, schema, text),
@@ -63,8 +63,8 @@ pub fn answer_under(alloc: Global, schema: &Schema, question: &str) -> Result<St
     }
 }
 
-fn placed(alloc: Global, schema: &Schema, elements: &str) -> Result<String, Fail> {
-    told(alloc, schema.place(&path(alloc, elements)?))
+fn located(alloc: Global, schema: &Schema, elements: &str) -> Result<String, Fail> {
+    in_words(alloc, schema.place(&path(alloc, elements)?))
 }
 
 fn read(alloc: Global, schema: &Schema, text: &str) -> Result<String, Fail> {
@@ -87,7 +87,7 @@ fn fields_v1(alloc: Global, schema: &Schema, call: &str, text: &str) -> Result<S
     match FieldSet::from_fields_v1(alloc, schema, &Value::from_str(alloc, text)?) {
         Ok(set) if call == "set" => shown_paths(alloc, &set),
         Ok(set) => written(alloc, schema, &set),
-        Err(fault) => told(alloc, fault),
+        Err(fault) => in_words(alloc, fault),
     }
 }
 

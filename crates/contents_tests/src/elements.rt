@@ -13,7 +13,7 @@ use crate::given::push;
 use fieldpath::{Elem, Keys, Path, Scalar};
 use std::alloc::{AllocError, Global};
 use std::test::Fail;
-use test_rows::{Answers, first_word, play_all, told};
+use test_rows::{Answers, first_word, in_words, play_all};
 
 #[derive(Drop)]
 struct Elements;
@@ -43,7 +43,7 @@ fn shown(alloc: Global, elements: &str) -> Result<String, Fail> {
 fn read(alloc: Global, text: &str) -> Result<String, Fail> {
     match Elem::read(alloc, text) {
         Ok(elem) => Ok(elem.text(alloc)?),
-        Err(fault) => told(alloc, fault),
+        Err(fault) => in_words(alloc, fault),
     }
 }
 
@@ -71,7 +71,7 @@ fn keys_of(alloc: Global, names: &str) -> Result<String, Fail> {
             let fields = keys.fields();
             Ok(format!(in alloc; "{fields:?}")?)
         }
-        Err(fault) => told(alloc, fault),
+        Err(fault) => in_words(alloc, fault),
     }
 }
 
@@ -97,7 +97,7 @@ fn compared(alloc: Global, words: &str) -> Result<String, Fail> {
     let (one, other) = first_word(words);
     let one = spec_path(alloc, one)?;
     let other = spec_path(alloc, other)?;
-    told(alloc, (one.cmp(&other), one == other))
+    in_words(alloc, (one.cmp(&other), one == other))
 }
 
 fn last_of(alloc: Global, word: &str) -> Result<String, Fail> {

@@ -20,17 +20,17 @@ use ownership::{
 use schema::Schema;
 use std::alloc::{AllocError, Global};
 use std::test::Fail;
-use test_rows::{Answers, first_word, mark, play, told};
+use test_rows::{Answers, first_word, in_words, mark, play};
 use typed::Tree;
 
 /// An object of the first type, as it stands with its owners.
 #[derive(Drop)]
-struct Live {
+struct Existing {
     types: Types,
     owned: Owned,
 }
 
-impl Answers for Live {
+impl Answers for Existing {
     fn answer(&mut self, alloc: Global, question: &str) -> Result<String, Fail> {
         let schema = first_schema(&self.types)?;
         let (call, words) = first_word(question);
@@ -46,7 +46,7 @@ impl Answers for Live {
 /// Plays examples with blank lines between them, each from no object of the first type.
 fn play_each(alloc: Global, types: &str, examples: &str) -> Result<(), Fail> {
     for example in examples.split("\n\n") {
-        let mut live = Live {
+        let mut live = Existing {
             types: types_of(alloc, types)?,
             owned: Owned::empty(alloc),
         };
@@ -179,7 +179,7 @@ fn compared(alloc: Global, words: &str) -> Result<String, Fail> {
     let (one, other) = first_word(words);
     let one = manager(alloc, one)?;
     let other = manager(alloc, other)?.try_copy()?;
-    told(alloc, (one.compare(&other), one.is_same(&other)))
+    in_words(alloc, (one.compare(&other), one.is_same(&other)))
 }
 
 /// A write between marks.

@@ -18,10 +18,10 @@ use crate::contents::written;
 use crate::given::{WIDGET_TYPES, first_schema, path, shown_paths, types_of};
 use fieldpath::{ElemText, Path};
 use fieldset::FieldSet;
-use pathmap::{Held, PathMap, put_under};
+use pathmap::{PathMap, PathValue, put_under};
 use std::alloc::{AllocError, Global};
 use std::test::Fail;
-use test_rows::{Answers, first_word, play_all, told};
+use test_rows::{Answers, first_word, in_words, play_all};
 
 #[derive(Drop)]
 struct Sets;
@@ -81,7 +81,7 @@ fn found(alloc: Global, words: &str) -> Result<String, Fail> {
     let (elements, paths) = words.split_once(" in ").ok_or("no set")?;
     let set = marked(alloc, paths)?;
     let path = path(alloc, elements)?;
-    told(
+    in_words(
         alloc,
         (
             set.contains(&path),
@@ -97,10 +97,10 @@ fn fields_v1(alloc: Global, paths: &str) -> Result<String, Fail> {
 }
 
 /// A number, or else a text.
-fn value_of(alloc: Global, text: &str) -> Result<Held, AllocError> {
+fn value_of(alloc: Global, text: &str) -> Result<PathValue, AllocError> {
     match text.parse::<i64>() {
-        Ok(number) => Ok(Held::Whole(number)),
-        Err(_) => Ok(Held::Text(String::from_str(alloc, text)?)),
+        Ok(number) => Ok(PathValue::Whole(number)),
+        Err(_) => Ok(PathValue::Text(String::from_str(alloc, text)?)),
     }
 }
 
@@ -147,7 +147,7 @@ fn is_held(alloc: Global, words: &str) -> Result<String, Fail> {
     let (elements, value) = value.split_once('=').ok_or("no value")?;
     let map = map(alloc, values)?;
     let held = map.get(&path(alloc, elements)?).ok_or("nothing is held")?;
-    told(alloc, held.try_copy()?.same(&value_of(alloc, value)?))
+    in_words(alloc, held.try_copy()?.same(&value_of(alloc, value)?))
 }
 
 fn element(alloc: Global, text: &str) -> Result<ElemText, Fail> {
@@ -176,17 +176,17 @@ fn below(alloc: Global, words: &str) -> Result<String, Fail> {
     let map = map(alloc, values)?;
     let child = map.child(&element(alloc, name)?).ok_or("no child")?;
     let held = child.held().ok_or("nothing is held")?;
-    told(alloc, held)
+    in_words(alloc, held)
 }
 
 fn simplest(alloc: Global) -> Result<String, Fail> {
-    let leaf = PathMap::leaf(alloc, Held::Whole(1));
+    let leaf = PathMap::leaf(alloc, PathValue::Whole(1));
     let has_empty_path = leaf.get(&Path::new(alloc)).is_some();
     let mut map = PathMap::empty(alloc);
     let is_bare = map.is_bare();
     map.mark();
     let is_empty = FieldSet::new(alloc).is_empty();
-    told(alloc, (is_empty, is_bare, has_empty_path, map.held()))
+    in_words(alloc, (is_empty, is_bare, has_empty_path, map.held()))
 }
 
 const EXAMPLES: &str = r#"set_operations

@@ -17,7 +17,7 @@ use api_types::{Types, TypesFault, all_places, is_lawful};
 use serde_json::Value;
 use std::alloc::Global;
 use std::test::Fail;
-use test_rows::{Answers, first_word, play_all, told};
+use test_rows::{Answers, first_word, in_words, play_all};
 
 #[derive(Drop)]
 struct TypesFile {
@@ -52,7 +52,7 @@ fn read(alloc: Global, text: &str) -> Result<Result<Types, TypesFault>, Fail> {
 fn verdict(alloc: Global, text: &str) -> Result<String, Fail> {
     match read(alloc, text)? {
         Ok(_) => Ok(String::from_str(alloc, "read")?),
-        Err(fault) => told(alloc, fault),
+        Err(fault) => in_words(alloc, fault),
     }
 }
 
@@ -61,18 +61,18 @@ fn fault_places(alloc: Global, text: &str) -> Result<String, Fail> {
     let value = Value::from_str(alloc, text)?;
     let all = all_places(alloc, &value)?;
     let mut shown = String::new(alloc);
-    for placed in &all {
-        shown = format!(in alloc; "{shown}{}{};", placed.fault, placed.place)?;
+    for located in &all {
+        shown = format!(in alloc; "{shown}{}{};", located.fault, located.place)?;
     }
     Ok(shown)
 }
 
-const FRONT: &str =
+const PREFIX: &str =
     r#"{"types":[{"group":"demo.example","kind":"Widget","plural":"widgets","version":"v1","schema":"#;
 
 /// A types file of one type with this schema.
 fn file_of(alloc: Global, schema: &str) -> Result<String, Fail> {
-    Ok(format!(in alloc; "{FRONT}{schema}}}]}}")?)
+    Ok(format!(in alloc; "{PREFIX}{schema}}}]}}")?)
 }
 
 fn verdict_on_schema(alloc: Global, schema: &str) -> Result<String, Fail> {
@@ -89,15 +89,15 @@ fn verdict_on_property(alloc: Global, property: &str) -> Result<String, Fail> {
     verdict(alloc, file_with(alloc, property)?.as_str())
 }
 
-fn change_told(alloc: Global, old: &Types, new: &Types) -> Result<String, Fail> {
+fn change_in_words(alloc: Global, old: &Types, new: &Types) -> Result<String, Fail> {
     match old.change_to(new) {
         Ok(_) => Ok(String::from_str(alloc, "lawful")?),
-        Err(fault) => told(alloc, fault),
+        Err(fault) => in_words(alloc, fault),
     }
 }
 
 fn change_of(alloc: Global, old: &str, new: &str) -> Result<String, Fail> {
-    change_told(alloc, &types_of(alloc, old)?, &types_of(alloc, new)?)
+    change_in_words(alloc, &types_of(alloc, old)?, &types_of(alloc, new)?)
 }
 
 fn verdict_on_change(alloc: Global, files: &str) -> Result<String, Fail> {
@@ -124,16 +124,16 @@ fn nested(alloc: Global, depth: &str) -> Result<String, Fail> {
 fn found(alloc: Global, types: &Types, words: &str) -> Result<String, Fail> {
     let (group, words) = first_word(words);
     let (version, plural) = first_word(words);
-    told(alloc, types.find(group, version, plural))
+    in_words(alloc, types.find(group, version, plural))
 }
 
-fn told_with_law(alloc: Global, text: &str, is_lawful: bool) -> Result<String, Fail> {
+fn in_words_with_law(alloc: Global, text: &str, is_lawful: bool) -> Result<String, Fail> {
     Ok(format!(in alloc; "{text} {is_lawful}")?)
 }
 
 fn kind_of(alloc: Global, types: &Types, place: &str) -> Result<String, Fail> {
     match types.get(place.parse::<u32>().ok().ok_or("no place")?) {
-        Some(served) => told_with_law(alloc, served.kind.as_str(), is_lawful(&served.schema)),
+        Some(served) => in_words_with_law(alloc, served.kind.as_str(), is_lawful(&served.schema)),
         None => Ok(String::from_str(alloc, "none")?),
     }
 }
@@ -146,7 +146,7 @@ fn shown(alloc: Global, types: &Types, place: &str) -> Result<String, Fail> {
 
 fn made(alloc: Global, schema: &str) -> Result<String, Fail> {
     let types = types_of(alloc, file_of(alloc, schema)?.as_str())?;
-    told_with_law(
+    in_words_with_law(
         alloc,
         shown(alloc, &types, "0")?.as_str(),
         is_lawful(first_schema(&types)?),

@@ -11,7 +11,7 @@ const A: &str = r#"{"apiVersion":"demo.example/v1","kind":"Widget","spec":{"imag
 const B: &str = r#"{"apiVersion":"demo.example/v1","kind":"Widget","spec":{"image":"b"}}"#;
 
 /// What happened, as `added w1 2`: the name, and the version of what is there now, or was there last.
-fn told(alloc: Global, notice: &Notice) -> Result<String, Fail> {
+fn in_words(alloc: Global, notice: &Notice) -> Result<String, Fail> {
     let (what, object) = match notice {
         Notice::Added(new) => ("added", new),
         Notice::Updated(_, new) => ("updated", new),
@@ -25,7 +25,7 @@ fn expect(process: &mut Process, alloc: Global, lines: &str, revision: u64) -> R
     let notices = process.turn()?;
     let mut said = Vec::new(alloc);
     for notice in notices.iter() {
-        said.push(told(alloc, notice)?)?;
+        said.push(in_words(alloc, notice)?)?;
     }
     let said = said.join(alloc, "\n")?;
     if said.as_str() == lines && process.informer().revision() == Some(revision) {

@@ -5,16 +5,16 @@ use Rattle.std.proofs.lemmas.Slice.Eq.{bytes_eq-Decides}
 use Rattle.std.specs.Str.{bytes_eq}
 use Rattle.std.specs.Str.Pattern.{FindsTextPrefix, LacksTextAt, StripsPrefix}
 
-drop_front : (n r : List ℕ) → drop (length n) (n ++ r) ≡ r
-drop_front [] r = refl
-drop_front (x ∷ n) r = drop_front n r
+drop_prefix : (n r : List ℕ) → drop (length n) (n ++ r) ≡ r
+drop_prefix [] r = refl
+drop_prefix (x ∷ n) r = drop_prefix n r
 
 -- what follows n is m just where the whole is n and m
 joined : (n m s x : List ℕ) → s ≡ n ++ x → bytes_eq x m ≡ bytes_eq s (n ++ m)
 joined n m s x split =
     both_ways (bytes_eq x m) (bytes_eq s (n ++ m))
     (λ e. (bytes_eq-Decides s (n ++ m)).1 (split ∙ ap (λ l. n ++ l) ((bytes_eq-Decides x m).0 e)))
-    (λ e. (bytes_eq-Decides x m).1 (sym (drop_front n x) ∙ ap (drop (length n)) (sym split ∙ (bytes_eq-Decides s (n ++ m)).0 e) ∙ drop_front n m))
+    (λ e. (bytes_eq-Decides x m).1 (sym (drop_prefix n x) ∙ ap (drop (length n)) (sym split ∙ (bytes_eq-Decides s (n ++ m)).0 e) ∙ drop_prefix n m))
 
 pub joined_where_found : (n m s : List ℕ) (r : Option (Bor (List ℕ))) (x : Bor (List ℕ)) → MatchOption r (FindsTextPrefix n s None) (λ x. StripsPrefix (FindsTextPrefix n) s x.now) → r ≡ Some x
     → bytes_eq x.now m ≡ bytes_eq s (n ++ m)

@@ -8,8 +8,8 @@ use Rattle.serde_json.specs.Data.{Data, null, boolean, number, string, array, ob
 use Rattle.serde_json.specs.Find.{get_member, as_null, as_array, as_object}
 use Rattle.serde_json.specs.Read.{read, max_depth}
 use Rattle.serde_json.specs.Written.{has_float, compact_text}
-use Rattle.fieldpath.specs.Spelled.{IsSpelled, AreSpelled, MembersAreSpelled}
-use Rattle.fieldpath.proofs.Spelled.{compact-read, spelled-read}
+use Rattle.fieldpath.specs.Encodable.{IsEncodable, AreEncodable, MembersAreEncodable}
+use Rattle.fieldpath.proofs.Encodable.{compact-read, encodable-read}
 use Rattle.indexer.specs.Objects.{Stored}
 use Rattle.decoder.specs.declared.malformed.Malformed.{Malformed}
 use Rattle.decoder.specs.declared.malformed.Malformed.TheVariants as malformed
@@ -44,13 +44,13 @@ then_some f None b is = absurd cc
 -- ---- what stands in a value that was read
 
 abbrev Fits : ℕ → Data → Type 0
-Fits n d = IsSpelled d × (depth d ≤ n)
+Fits n d = IsEncodable d × (depth d ≤ n)
 
 abbrev MembersFit : ℕ → Members → Type 0
-MembersFit n ms = MembersAreSpelled ms × (members_depth ms ≤ n)
+MembersFit n ms = MembersAreEncodable ms × (members_depth ms ≤ n)
 
 abbrev ItemsFit : ℕ → Items → Type 0
-ItemsFit n ds = AreSpelled ds × (items_depth ds ≤ n)
+ItemsFit n ds = AreEncodable ds × (items_depth ds ≤ n)
 
 member_fits : (n : ℕ) (k : List ℕ) (ms : Members) (d : Data) → MembersFit n ms → get_member k ms ≡ Some d → Fits n d
 member_fits n k no_members d fits is = absurd cc
@@ -97,7 +97,7 @@ array_fits n (array es) ds fits is =
     subst (ItemsFit n) (some_is es ds is) (fits.0, shallow)
 
 value_fits : (bytes : List ℕ) (d : Data) → value_in bytes ≡ Ok d → Fits max_depth d
-value_fits bytes d is = spelled-read bytes d (if_text (is_utf8 bytes) (found malformed.Json _ d is))
+value_fits bytes d is = encodable-read bytes d (if_text (is_utf8 bytes) (found malformed.Json _ d is))
   where
     if_text : (b : Bool) → cond b (read bytes) None ≡ Some d → read bytes ≡ Some d
     if_text true here = here

@@ -4,4 +4,4 @@ pub mod Objects
 pub mod Pages
 pub mod Lines
 pub mod OwnTexts
-pub mod Seen
+pub mod Views

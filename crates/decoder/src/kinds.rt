@@ -4,7 +4,7 @@ ghost use Rattle.std.specs.Prelude.{◌≡◌, ◌++◌, codes};
 ghost use Rattle.serde_json.specs.View.{members_view};
 ghost use Rattle.decoder.specs.Members.{is_of, is_text, text_at};
 ghost use Rattle.decoder.specs.Wanted.{api_version_of};
-ghost use Rattle.decoder.specs.Seen.{Says, wanted_of};
+ghost use Rattle.decoder.specs.Views.{Says, wanted_of};
 
 use crate::malformed::Malformed;
 use crate::members::text_at;

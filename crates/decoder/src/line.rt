@@ -4,7 +4,7 @@
 ghost use Rattle.std.specs.Prelude.{◌≡◌, option_map};
 ghost use Rattle.serde_json.specs.View.{members_view, view};
 ghost use Rattle.decoder.specs.Lines.{bookmark_of, line_in, line_of, line_by_type};
-ghost use Rattle.decoder.specs.Seen.{Gives, Says, line_seen, object_value_in, type_in, wanted_of};
+ghost use Rattle.decoder.specs.Views.{Returns, Says, line_seen, object_value_in, type_in, wanted_of};
 
 use crate::fault::DecodeFault;
 use crate::kinds::check_kind;
@@ -44,7 +44,7 @@ fn line_by_type(
     name: &str,
     value: &Value,
 ) -> Result<Line, DecodeFault>
-    ensures { Gives line_seen result (line_by_type (wanted_of wanted.now) name.now (view value.now)) }
+    ensures { Returns line_seen result (line_by_type (wanted_of wanted.now) name.now (view value.now)) }
 {
     match name {
         "ADDED" | "MODIFIED" => Ok(Line::Put(shared_object_of(alloc, wanted, value)?)),
@@ -68,7 +68,7 @@ fn object_value_in(top: &Map<String, Value>) -> Result<&Value, Malformed>
 }
 
 fn line_of(alloc: Global, wanted: &Wanted, value: &Value) -> Result<Line, DecodeFault>
-    ensures { Gives line_seen result (line_of (wanted_of wanted.now) (view value.now)) }
+    ensures { Returns line_seen result (line_of (wanted_of wanted.now) (view value.now)) }
 {
     let top = members_of(value)?;
     let name = type_in(top)?;
@@ -78,7 +78,7 @@ fn line_of(alloc: Global, wanted: &Wanted, value: &Value) -> Result<Line, Decode
 
 /// What a line of a watch says (Kubernetes API Concepts, "Efficient detection of changes"), or its first error.
 pub fn read_line(alloc: Global, wanted: &Wanted, bytes: &[u8]) -> Result<Line, DecodeFault>
-    ensures { Gives line_seen result (line_in (wanted_of wanted.now) bytes.now) }
+    ensures { Returns line_seen result (line_in (wanted_of wanted.now) bytes.now) }
 {
     let value = value_in(alloc, bytes)?;
     line_of(alloc, wanted, &value)

@@ -3,7 +3,7 @@
 ghost use Rattle.std.specs.Prelude.{◌≡◌, option_map};
 ghost use Rattle.serde_json.specs.View.{members_view, view};
 ghost use Rattle.decoder.specs.Members.{at, members_of, metadata_in, text_at, unless_null, value_in, version_in};
-ghost use Rattle.decoder.specs.Seen.{Gives, Says};
+ghost use Rattle.decoder.specs.Views.{Returns, Says};
 
 use crate::fault::DecodeFault;
 use crate::malformed::Malformed;
@@ -14,7 +14,7 @@ use std::alloc::Global;
 
 /// The JSON value that these bytes are.
 pub(crate) fn value_in(alloc: Global, bytes: &[u8]) -> Result<Value, DecodeFault>
-    ensures { Gives view result (value_in bytes.now) }
+    ensures { Returns view result (value_in bytes.now) }
 {
     match Value::from_slice(alloc, bytes) {
         Ok(value) => Ok(value),

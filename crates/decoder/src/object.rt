@@ -7,7 +7,7 @@ ghost use Rattle.indexer.specs.Objects.{shared_of, stored_of};
 ghost use Rattle.decoder.specs.declared.malformed.Malformed.TheVariants as malformed;
 ghost use Rattle.decoder.specs.Members.{or_malformed};
 ghost use Rattle.decoder.specs.Objects.{labels_of, namespace_in, object_of, text_of};
-ghost use Rattle.decoder.specs.Seen.{Gives, Says, name_in, wanted_of};
+ghost use Rattle.decoder.specs.Views.{Returns, Says, name_in, wanted_of};
 
 use crate::fault::DecodeFault;
 use crate::kinds::check_kind;
@@ -40,7 +40,7 @@ fn texts_in(
     alloc: Global,
     members: &Map<String, Value>,
 ) -> Result<BTreeMap<String, String>, DecodeFault>
-    ensures { Gives named_texts result (or_malformed malformed.Labels (texts_of (members_view members.now.entries))) }
+    ensures { Returns named_texts result (or_malformed malformed.Labels (texts_of (members_view members.now.entries))) }
 {
     match texts_of(alloc, members)? {
         Some(labels) => Ok(labels),
@@ -49,7 +49,7 @@ fn texts_in(
 }
 
 fn labels_of(alloc: Global, value: Option<&Value>) -> Result<BTreeMap<String, String>, DecodeFault>
-    ensures { Gives named_texts result (labels_of (option_map (λ v. view v.now) value.entry)) }
+    ensures { Returns named_texts result (labels_of (option_map (λ v. view v.now) value.entry)) }
 {
     let Some(value) = value else {
         return Ok(BTreeMap::new(alloc));
@@ -60,7 +60,7 @@ fn labels_of(alloc: Global, value: Option<&Value>) -> Result<BTreeMap<String, St
 
 /// The compact JSON of a value without floats, in no more room than it takes, since many are kept.
 fn text_of(alloc: Global, value: &Value) -> Result<String, DecodeFault>
-    ensures { Gives (λ s. string_bytes s) result (text_of (view value.now)) }
+    ensures { Returns (λ s. string_bytes s) result (text_of (view value.now)) }
 {
     if has_float(value) {
         return Err(DecodeFault::Malformed(Malformed::Number));
@@ -76,7 +76,7 @@ pub(crate) fn object_of(
     wanted: &Wanted,
     value: &Value,
 ) -> Result<Object, DecodeFault>
-    ensures { Gives stored_of result (object_of (wanted_of wanted.now) (view value.now)) }
+    ensures { Returns stored_of result (object_of (wanted_of wanted.now) (view value.now)) }
 {
     let top = members_of(value)?;
     check_kind(wanted, top)?;
@@ -101,7 +101,7 @@ pub(crate) fn shared_object_of(
     wanted: &Wanted,
     value: &Value,
 ) -> Result<Rc<Object>, DecodeFault>
-    ensures { Gives shared_of result (object_of (wanted_of wanted.now) (view value.now)) }
+    ensures { Returns shared_of result (object_of (wanted_of wanted.now) (view value.now)) }
 {
     let object = object_of(alloc, wanted, value)?;
     Ok(object.shared(alloc)?)

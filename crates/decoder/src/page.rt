@@ -5,7 +5,7 @@ ghost use Rattle.std.specs.Prelude.{◌≡◌, map, option_map};
 ghost use Rattle.serde_json.specs.View.{items_view, members_view, view};
 ghost use Rattle.indexer.specs.Objects.{shared_of};
 ghost use Rattle.decoder.specs.Pages.{objects_of, page_in, page_of, token_of};
-ghost use Rattle.decoder.specs.Seen.{Gives, Says, items_in, page_seen, wanted_of};
+ghost use Rattle.decoder.specs.Views.{Returns, Says, items_in, page_seen, wanted_of};
 
 use crate::fault::DecodeFault;
 use crate::kinds::check_list_kind;
@@ -56,7 +56,7 @@ fn objects_of(
     wanted: &Wanted,
     items: &[Value],
 ) -> Result<Vec<Rc<Object>>, DecodeFault>
-    ensures { Gives (λ v. map shared_of v.items) result (objects_of (wanted_of wanted.now) (items_view items.now)) }
+    ensures { Returns (λ v. map shared_of v.items) result (objects_of (wanted_of wanted.now) (items_view items.now)) }
 {
     let mut objects = Vec::with_capacity(alloc, items.len())?;
     for item in items {
@@ -66,7 +66,7 @@ fn objects_of(
 }
 
 fn page_of(alloc: Global, wanted: &Wanted, value: &Value) -> Result<Page, DecodeFault>
-    ensures { Gives page_seen result (page_of (wanted_of wanted.now) (view value.now)) }
+    ensures { Returns page_seen result (page_of (wanted_of wanted.now) (view value.now)) }
 {
     let top = members_of(value)?;
     check_list_kind(wanted, top)?;
@@ -85,7 +85,7 @@ fn page_of(alloc: Global, wanted: &Wanted, value: &Value) -> Result<Page, Decode
 /// What the body of a list's answer says (Kubernetes API Concepts, "Retrieving large results sets in chunks"), or
 /// its first error.
 pub fn read_page(alloc: Global, wanted: &Wanted, bytes: &[u8]) -> Result<Page, DecodeFault>
-    ensures { Gives page_seen result (page_in (wanted_of wanted.now) bytes.now) }
+    ensures { Returns page_seen result (page_in (wanted_of wanted.now) bytes.now) }
 {
     let value = value_in(alloc, bytes)?;
     page_of(alloc, wanted, &value)

@@ -2,7 +2,7 @@
 
 ghost use Rattle.std.specs.Prelude.{◌≡◌, ◌++◌, codes, option_map};
 ghost use Rattle.std.specs.Str.{bytes_eq};
-ghost use Rattle.decoder.specs.Seen.{wanted_of};
+ghost use Rattle.decoder.specs.Views.{wanted_of};
 ghost use Rattle.decoder.specs.Wanted.{api_version_of, is_in};
 
 /// A type of objects, as a server serves it: below `/apis/{group}/{version}`, where `plural` stands in the path.
@@ -22,10 +22,10 @@ pub struct Wanted {
 }
 
 /// Whether a text is these two, one after the other.
-fn is_joined(text: &str, front: &str, end: &str) -> bool
-    ensures { result ≡ bytes_eq text.now (front.now ++ end.now) }
+fn is_joined(text: &str, prefix: &str, end: &str) -> bool
+    ensures { result ≡ bytes_eq text.now (prefix.now ++ end.now) }
 {
-    match text.strip_prefix(front) {
+    match text.strip_prefix(prefix) {
         Some(rest) => rest == end,
         None => false,
     }

@@ -4,5 +4,5 @@ pub mod Texts
 pub mod KeyFields
 pub mod Names
 pub mod Shown
-pub mod Spelled
+pub mod Encodable
 pub mod ElemTexts

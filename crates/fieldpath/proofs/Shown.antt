@@ -1,7 +1,7 @@
 -- The elements of a path, shown one after another.
 use Rattle.std.proofs.Common.{◌≡◌, List, ℕ, [], ◌∷◌, ◌++◌, flat_map, map, Ok, Result, refl, sym, ap, ap₂, ◌∙◌}
 use Rattle.fieldpath.specs.Elements.{Element, NoElement, shown, shown_element, shown_read, read_element}
-use Rattle.fieldpath.specs.Elems.{element}
+use Rattle.fieldpath.specs.ElementViews.{element}
 use Rattle.fieldpath.specs.declared.elem.Elem.{Elem}
 
 shown-cons : (t : List ℕ) (ts : List (List ℕ)) → shown (t ∷ ts) ≡ shown_read (read_element t) ++ shown ts

@@ -5,13 +5,13 @@ use Rattle.std.specs.Str.{bytes_eq}
 use Rattle.std.specs.Str.Pattern.{FindsTextPrefix, LacksTextAt, StripsPrefix}
 use Rattle.serde_json.specs.Read.{read}
 use Rattle.fieldpath.specs.Elements.{Element, field, name_text, value, NoElement, no_prefix, has_prefix, is_field_text, text_after, read_json, read_element, keys_of, scalar_of}
-use Rattle.fieldpath.specs.Elems.{element, Gives}
+use Rattle.fieldpath.specs.ElementViews.{element, Returns}
 use Rattle.fieldpath.specs.declared.elem.Elem.{Elem}
 use Rattle.fieldpath.specs.declared.elem.ElemFault.{ElemFault}
 
-take_front : (n r : List ℕ) → take (length n) (n ++ r) ≡ n
-take_front [] r = refl
-take_front (x ∷ n) r = ap (λ l. x ∷ l) (take_front n r)
+take_prefix : (n r : List ℕ) → take (length n) (n ++ r) ≡ n
+take_prefix [] r = refl
+take_prefix (x ∷ n) r = ap (λ l. x ∷ l) (take_prefix n r)
 
 abbrev rest_if : List ℕ → List ℕ → Bool → Option (List ℕ)
 rest_if n s b = cond b (Some (drop (length n) s)) None
@@ -28,8 +28,8 @@ rest-strip n s (Some x) h =
     let k = h.0 in
     let len : k ≡ length n = h.1.0 in
     let split : s ≡ n ++ drop k s = h.1.1 in
-    let front : take (length n) s ≡ n = ap (take (length n)) split ∙ take_front n (drop k s) in
-    let same : bytes_eq (take (length n) s) n ≡ true = (bytes_eq-Decides (take (length n) s) n).1 front in
+    let prefix : take (length n) s ≡ n = ap (take (length n)) split ∙ take_prefix n (drop k s) in
+    let same : bytes_eq (take (length n) s) n ≡ true = (bytes_eq-Decides (take (length n) s) n).1 prefix in
     ap Some (h.2 ∙ ap (λ j. drop j s) len) ∙ sym (ap (rest_if n s) same)
 
 pub prefixed_as : {E : Type 0} (r : Result (String Global) E) (s t : List ℕ) → s ≡ t → IfOk r (λ x. string_bytes x ≡ s) → IfOk r (λ x. string_bytes x ≡ t)
@@ -85,8 +85,8 @@ pub read-none : (s : List ℕ) → None ≡ text_after 102 s → None ≡ text_a
 read-none s f k v =
     read-by_prefix s ∙ ap₂ (λ a b. by_prefix s a b (has_prefix 118 s)) (no_prefix_of 102 s f) (no_prefix_of 107 s k) ∙ ap (λ v. by_prefix s false false v) (no_prefix_of 118 s v)
 
-pub gives-as : (r : Result Elem ElemFault) (a b : Result Element NoElement) → a ≡ b → Gives element r b → Gives element r a
-gives-as r a b is h = subst (Gives element r) (sym is) h
+pub gives-as : (r : Result Elem ElemFault) (a b : Result Element NoElement) → a ≡ b → Returns element r b → Returns element r a
+gives-as r a b is h = subst (Returns element r) (sym is) h
 
 pub not_some : (r : Option (Bor (List ℕ))) (o : Option (List ℕ)) → ((x : Bor (List ℕ)) → r ≢ Some x) → option_map (λ s. s.now) r ≡ o → None ≡ o
 not_some None o differs h = h

@@ -1,5 +1,5 @@
 pub mod Paths
 pub mod Elements
 pub mod Scalars
-pub mod Elems
-pub mod Spelled
+pub mod ElementViews
+pub mod Encodable

@@ -5,7 +5,7 @@ ghost use Rattle.std.specs.Str.{bytes_eq};
 ghost use Rattle.serde_json.specs.Read.{read};
 ghost use Rattle.serde_json.specs.View.{view};
 ghost use Rattle.fieldpath.specs.Elements.{element_text, if_canonical, keys_of, read_element, read_json, scalar_of, shown_element, value};
-ghost use Rattle.fieldpath.specs.Elems.{Gives, element, json_or_bad};
+ghost use Rattle.fieldpath.specs.ElementViews.{Returns, element, json_or_bad};
 
 use crate::keys::{Keys, fields_of};
 use crate::scalar::Scalar;
@@ -86,7 +86,7 @@ impl Elem {
 
     /// The element that has this text; exactly the texts of elements are read.
     pub fn read(alloc: Global, text: &str) -> Result<Elem, ElemFault>
-        ensures { Gives element result (read_element text.now) }
+        ensures { Returns element result (read_element text.now) }
     {
         if let Some(name) = rest_after(FIELD_PREFIX, text) {
             return Ok(Elem::Field(String::from_str(alloc, name)?));
@@ -152,7 +152,7 @@ pub(crate) fn rest_after<'a>(prefix: &str, text: &'a str) -> Option<&'a str>
 }
 
 fn parse(alloc: Global, json: &str) -> Result<Value, ElemFault>
-    ensures { Gives view result (json_or_bad (read json.now)) }
+    ensures { Returns view result (json_or_bad (read json.now)) }
 {
     match Value::from_str(alloc, json) {
         Ok(value) => Ok(value),
@@ -167,7 +167,7 @@ fn parse(alloc: Global, json: &str) -> Result<Value, ElemFault>
 }
 
 fn canonical(alloc: Global, text: &str, elem: Option<Elem>) -> Result<Elem, ElemFault>
-    ensures { Gives element result (if_canonical text.now (option_map element elem)) }
+    ensures { Returns element result (if_canonical text.now (option_map element elem)) }
 {
     match elem {
         Some(elem) => {
@@ -206,7 +206,7 @@ fn value_of(alloc: Global, parsed: &Value) -> Result<Option<Elem>, AllocError>
 }
 
 fn read_key(alloc: Global, text: &str, json: &str) -> Result<Elem, ElemFault>
-    ensures { Gives element result (read_json text.now keys_of (read json.now)) }
+    ensures { Returns element result (read_json text.now keys_of (read json.now)) }
 {
     let parsed = parse(alloc, json)?;
     let elem = key_of(alloc, &parsed)?;
@@ -214,7 +214,7 @@ fn read_key(alloc: Global, text: &str, json: &str) -> Result<Elem, ElemFault>
 }
 
 fn read_value(alloc: Global, text: &str, json: &str) -> Result<Elem, ElemFault>
-    ensures { Gives element result (read_json text.now (λ d. option_map value (scalar_of d)) (read json.now)) }
+    ensures { Returns element result (read_json text.now (λ d. option_map value (scalar_of d)) (read json.now)) }
 {
     let parsed = parse(alloc, json)?;
     let elem = value_of(alloc, &parsed)?;

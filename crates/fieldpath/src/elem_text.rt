@@ -6,7 +6,7 @@ ghost use Rattle.std.specs.Ordering.{as_partial_cmp, eq_by_cmp};
 ghost use Rattle.serde_json.specs.View.{view};
 ghost use Rattle.serde_json.specs.Written.{compact_text};
 ghost use Rattle.fieldpath.specs.Elements.{field_name, is_field_text, keys_json, keys_of, list_item_text, name_text, read_element, scalar_json, scalar_of, scalar_text, set_item_text};
-ghost use Rattle.fieldpath.specs.Elems.{GivesText, element};
+ghost use Rattle.fieldpath.specs.ElementViews.{ReturnsText, element};
 ghost use Rattle.fieldpath.specs.Paths.{text_cmp, text_cmp_total};
 
 use crate::elem::{Elem, ElemFault, FIELD_PREFIX, KEY_PREFIX, VALUE_PREFIX, prefixed, rest_after};
@@ -96,7 +96,7 @@ impl ElemText {
     /// This text of a field's element.
     fn of_field_text(alloc: Global, text: &str) -> Result<ElemText, ElemFault>
         requires { is_field_text text.now ≡ true }
-        ensures { GivesText text.now result (read_element text.now) }
+        ensures { ReturnsText text.now result (read_element text.now) }
     {
         Ok(ElemText {
             text: String::from_str(alloc, text)?,
@@ -105,7 +105,7 @@ impl ElemText {
 
     /// This text, once its element is read.
     fn checked(alloc: Global, text: &str) -> Result<ElemText, ElemFault>
-        ensures { GivesText text.now result (read_element text.now) }
+        ensures { ReturnsText text.now result (read_element text.now) }
     {
         drop(Elem::read(alloc, text)?);
         Ok(ElemText {
@@ -115,7 +115,7 @@ impl ElemText {
 
     /// This text, refused exactly where `Elem::read` refuses it. A field's takes one allocation.
     pub fn read(alloc: Global, text: &str) -> Result<ElemText, ElemFault>
-        ensures { GivesText text.now result (read_element text.now) }
+        ensures { ReturnsText text.now result (read_element text.now) }
     {
         if is_field(text) {
             return ElemText::of_field_text(alloc, text);

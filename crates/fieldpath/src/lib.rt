@@ -14,7 +14,7 @@ mod scalar;
 
 pub use elem::{Elem, ElemFault, FIELD_PREFIX};
 pub use elem_text::ElemText;
-pub use json_law::{compact_texts_read_back, readings_are_spelled};
+pub use json_law::{compact_texts_read_back, readings_are_encodable};
 pub use keys::{Keys, KeysFault};
 pub use path::Path;
 pub use scalar::Scalar;

@@ -4,7 +4,7 @@ ghost use Rattle.std.specs.Prelude.{refl};
 ghost use Rattle.std.specs.Cmp.{eq_by_cmp_equiv, partial_equiv_from_equiv, partial_order_from_total};
 ghost use Rattle.std.specs.Ordering.{as_partial_cmp, eq_by_cmp};
 ghost use Rattle.fieldpath.specs.Elements.{read_element, shown, shown_element};
-ghost use Rattle.fieldpath.specs.Elems.{element};
+ghost use Rattle.fieldpath.specs.ElementViews.{element};
 ghost use Rattle.fieldpath.specs.Paths.{path_cmp, path_cmp_total};
 
 use crate::elem::Elem;
@@ -23,7 +23,7 @@ pub struct Path {
 impl Model for Path {
     ghost use Rattle.std.specs.Prelude.{List, ℕ, map, string_bytes};
     ghost use Rattle.std.specs.Coded.{coded_ℕ, coded_list};
-    ghost use Rattle.fieldpath.specs.Elems.{AreTextsOf};
+    ghost use Rattle.fieldpath.specs.ElementViews.{AreTextsOf};
 
     ghost Value = { List (List ℕ) };
 
@@ -118,7 +118,7 @@ impl PartialOrd for Path {
     }
 }
 
-/// Element by element by the bytes of the texts, and a front before what extends it.
+/// Element by element by the bytes of the texts, and a prefix before what extends it.
 impl Ord for Path {
     ghost cmp = { path_cmp };
 

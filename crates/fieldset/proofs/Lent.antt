@@ -9,8 +9,8 @@ use Rattle.json_texts.specs.InOrder.{are_ordered, data_of, is_ordered, members_d
 use Rattle.json_texts.proofs.Parts.{Entry, at_place, names-data, ordered_parts}
 use Rattle.serde_json.specs.Data.{Members, no_members, member, object}
 use Rattle.fieldpath.specs.Scalars.{ascend}
-use Rattle.fieldpath.specs.Spelled.{member_names}
-use Rattle.schema.specs.Steps.{Spot}
+use Rattle.fieldpath.specs.Encodable.{member_names}
+use Rattle.schema.specs.Steps.{TypeRef}
 use Rattle.fieldset.specs.FieldsV1.{is_empty, read_at}
 
 abbrev pub data_in : List Entry → Members
@@ -36,7 +36,7 @@ members_smaller v ms es is same =
     subst (λ l. length (members_tokens (members_view l)) < length (json_tokens (value_view v))) (sym same)
     (subst (λ j. length (members_tokens (members_view ms.items)) < length (json_tokens j)) (sym (ap value_view is ∙ view-Object ms)) (one_more (length (members_tokens (members_view ms.items)))))
 
-pub object_is : (s : Spot) (v : Value Global) (ms : Vec Entry Global) (es : List Entry) → v ≡ Object ms → es ≡ ms.items → read_at s (data_of (value_view v)) ≡ read_at s (object (data_in es))
+pub object_is : (s : TypeRef) (v : Value Global) (ms : Vec Entry Global) (es : List Entry) → v ≡ Object ms → es ≡ ms.items → read_at s (data_of (value_view v)) ≡ read_at s (object (data_in es))
 object_is s v ms es is same =
     ap (λ x. read_at s (data_of (value_view x))) is ∙ ap (λ j. read_at s (data_of j)) (view-Object ms) ∙ ap (λ l. read_at s (object (data_in l))) (sym same)
 

@@ -3,10 +3,10 @@ pub mod Lent
 pub mod Owning
 pub mod Taking
 pub mod Splits
-pub mod Fronts
+pub mod Prefixes
 pub mod Marks
 pub mod Written
-pub mod Placed
+pub mod WellTyped
 pub mod Ordered
 pub mod Saying
 pub mod Back

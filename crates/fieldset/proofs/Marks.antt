@@ -15,9 +15,9 @@ use Rattle.pathmap.specs.Insides.{inside}
 use Rattle.pathmap.proofs.Trees.{ties}
 use Rattle.json_values.specs.Members.{has}
 use Rattle.schema.specs.Shape.{Fields, shape_at}
-use Rattle.schema.specs.Steps.{Spot, value_of, set_item, map_item, step}
+use Rattle.schema.specs.Steps.{TypeRef, value_of, set_item, map_item, step}
 use Rattle.fieldset.specs.FieldsV1.{each, leaf, put_names, Reading, Refusal, and_then, dot, element_in, has_keys, is_empty, is_key_field, joined, may_have_dot, not_canonical, off_schema, read_at, read_below, read_mark, read_member, read_members, some_or}
-use Rattle.fieldset.proofs.Fronts.{none_some}
+use Rattle.fieldset.proofs.Prefixes.{none_some}
 use Rattle.schema.proofs.Places.{next, step_read}
 use Rattle.fieldset.proofs.Splits.{each_inside}
 use Rattle.fieldset.proofs.Taking.{joined-nothing}
@@ -50,10 +50,10 @@ dot_none : read_element dot ≡ Err no_prefix
 unfolding read_element
 dot_none = refl
 
-pub dot_next : (spot : Spot) → next spot dot ≡ None
-dot_next spot = ap (step_read spot) dot_none
+pub dot_next : (type_ref : TypeRef) → next type_ref dot ≡ None
+dot_next type_ref = ap (step_read type_ref) dot_none
 
-no_key : (spot : Spot) (e : Element) (p : Spot) → step spot e ≡ Some p → is_key_field spot e ≡ false
+no_key : (type_ref : TypeRef) (e : Element) (p : TypeRef) → step type_ref e ≡ Some p → is_key_field type_ref e ≡ false
 no_key (value_of s) e p h = refl
 no_key set_item e p h = refl
 no_key (map_item names all) (element.key ks) p h = refl
@@ -64,11 +64,11 @@ no_key (map_item names all) (element.field f) p h = by_key (list_any (bytes_eq f
     by_key true h = absurd (none_some p h)
     by_key false h = refl
 
-pub not_dot : (spot : Spot) (k : List ℕ) (p : Spot) → next spot k ≡ Some p → bytes_eq k dot ≡ false
-not_dot spot k p is = by_test (bytes_eq k dot) refl
+pub not_dot : (type_ref : TypeRef) (k : List ℕ) (p : TypeRef) → next type_ref k ≡ Some p → bytes_eq k dot ≡ false
+not_dot type_ref k p is = by_test (bytes_eq k dot) refl
   where
     by_test : (b : Bool) → bytes_eq k dot ≡ b → b ≡ false
-    by_test true h = absurd (none_some p (sym (dot_next spot) ∙ ap (next spot) (sym ((bytes_eq-Decides k dot).0 h)) ∙ is))
+    by_test true h = absurd (none_some p (sym (dot_next type_ref) ∙ ap (next type_ref) (sym ((bytes_eq-Decides k dot).0 h)) ∙ is))
     by_test false h = refl
 
 pub mark_nothing : (b : Bool) (d : Data) (x : Content) → read_mark b d ≡ Ok x → nothing ≡ x
@@ -84,31 +84,31 @@ mark_nothing b (object ms) x h = by_test (b && is_empty ms) h
     by_test false h = absurd (not_ok not_canonical x h)
 
 -- what is written inside an element reads as what stands there
-abbrev pub IsRead : Spot → (List ℕ → Members) → Content → List ℕ → Type 0
-IsRead spot f c e = (p : Spot) × (next spot e ≡ Some p) × (read_at p (object (f e)) ≡ Ok (inside e c))
+abbrev pub IsRead : TypeRef → (List ℕ → Members) → Content → List ℕ → Type 0
+IsRead type_ref f c e = (p : TypeRef) × (next type_ref e ≡ Some p) × (read_at p (object (f e)) ≡ Ok (inside e c))
 
-module _ (spot : Spot) (beside : Members) where
-  pub element_read : (k : List ℕ) (d : Data) (inner : Spot → Reading) (p : Spot) → next spot k ≡ Some p → read_member spot beside k d inner ≡ read_below k (inner p)
+module _ (type_ref : TypeRef) (beside : Members) where
+  pub element_read : (k : List ℕ) (d : Data) (inner : TypeRef → Reading) (p : TypeRef) → next type_ref k ≡ Some p → read_member type_ref beside k d inner ≡ read_below k (inner p)
   element_read k d inner p is =
-      ap (λ b. cond b (read_mark (may_have_dot spot beside) d) (and_then (element_in (read_element k)) (λ e. cond (is_key_field spot e) (read_mark (has dot beside) d) (and_then (some_or off_schema (step spot e)) (λ n. read_below k (inner n))))))
-      (not_dot spot k p is)
+      ap (λ b. cond b (read_mark (may_have_dot type_ref beside) d) (and_then (element_in (read_element k)) (λ e. cond (is_key_field type_ref e) (read_mark (has dot beside) d) (and_then (some_or off_schema (step type_ref e)) (λ n. read_below k (inner n))))))
+      (not_dot type_ref k p is)
       ∙ by_read (read_element k) is
     where
-      by_read : (r : Result Element NoElement) → step_read spot r ≡ Some p
-          → and_then (element_in r) (λ e. cond (is_key_field spot e) (read_mark (has dot beside) d) (and_then (some_or off_schema (step spot e)) (λ n. read_below k (inner n)))) ≡ read_below k (inner p)
+      by_read : (r : Result Element NoElement) → step_read type_ref r ≡ Some p
+          → and_then (element_in r) (λ e. cond (is_key_field type_ref e) (read_mark (has dot beside) d) (and_then (some_or off_schema (step type_ref e)) (λ n. read_below k (inner n)))) ≡ read_below k (inner p)
       by_read (Err n) h = absurd (none_some p h)
       by_read (Ok e) h =
-          ap (λ b. cond b (read_mark (has dot beside) d) (and_then (some_or off_schema (step spot e)) (λ n. read_below k (inner n)))) (no_key spot e p h) ∙ ap (λ o. and_then (some_or off_schema o) (λ n. read_below k (inner n))) h
+          ap (λ b. cond b (read_mark (has dot beside) d) (and_then (some_or off_schema (step type_ref e)) (λ n. read_below k (inner n)))) (no_key type_ref e p h) ∙ ap (λ o. and_then (some_or off_schema o) (λ n. read_below k (inner n))) h
 
   module _ (f : List ℕ → Members) (c : Content) where
-    pub each_read : (hs : List (List ℕ)) → AllByRecursion (IsRead spot f c) hs → read_members spot beside (each f hs) ≡ Ok (gather (each_inside c hs))
+    pub each_read : (hs : List (List ℕ)) → AllByRecursion (IsRead type_ref f c) hs → read_members type_ref beside (each f hs) ≡ Ok (gather (each_inside c hs))
     each_read [] h = refl
     each_read (e ∷ hs) h =
         ap₂ joined (element_read e (object (f e)) (λ n. read_at n (object (f e))) h.0.0 h.0.1 ∙ ap (read_below e) h.0.2) (each_read hs h.1)
 
-    pub no_dot : (hs : List (List ℕ)) → AllByRecursion (IsRead spot f c) hs → has dot (each f hs) ≡ false
+    pub no_dot : (hs : List (List ℕ)) → AllByRecursion (IsRead type_ref f c) hs → has dot (each f hs) ≡ false
     no_dot [] h = refl
-    no_dot (e ∷ hs) h = later (slice_cmp nat_cmp dot e) (differ (not_dot spot e h.0.0 h.0.1)) (no_dot hs h.1)
+    no_dot (e ∷ hs) h = later (slice_cmp nat_cmp dot e) (differ (not_dot type_ref e h.0.0 h.0.1)) (no_dot hs h.1)
       where
         differ : bytes_eq e dot ≡ false → is_eq (slice_cmp nat_cmp dot e) ≡ false
         differ h = by_test (is_eq (slice_cmp nat_cmp dot e)) refl
@@ -125,31 +125,31 @@ module _ (spot : Spot) (beside : Members) where
   -- ---- members that mark an item
 
   abbrev pub IsMarking : List ℕ → Type 0
-  IsMarking k = (d : Data) (inner : Spot → Reading) → read_member spot beside k d inner ≡ read_mark true d
+  IsMarking k = (d : Data) (inner : TypeRef → Reading) → read_member type_ref beside k d inner ≡ read_mark true d
 
-  put_read : (k : List ℕ) → IsMarking k → (ms : Members) (x : Content) → read_members spot beside ms ≡ Ok x → read_members spot beside (put k leaf ms) ≡ Ok x
+  put_read : (k : List ℕ) → IsMarking k → (ms : Members) (x : Content) → read_members type_ref beside ms ≡ Ok x → read_members type_ref beside (put k leaf ms) ≡ Ok x
   put_read k marks no_members x h = ap (λ r. joined r (Ok nothing)) (marks leaf (λ n. read_at n leaf)) ∙ joined-nothing (Ok nothing) ∙ h
   put_read k marks (member l e ms) x h = by_order (put_read k marks ms) (slice_cmp nat_cmp k l) refl
     where
-      by_order : ((y : Content) → read_members spot beside ms ≡ Ok y → read_members spot beside (put k leaf ms) ≡ Ok y) → (o : Ordering) → slice_cmp nat_cmp k l ≡ o
-          → read_members spot beside (match_ordering o (member k leaf (member l e ms)) (member l leaf ms) (member l e (put k leaf ms))) ≡ Ok x
-      by_order later Less o = ap (λ r. joined r (read_members spot beside (member l e ms))) (marks leaf (λ n. read_at n leaf)) ∙ joined-nothing (read_members spot beside (member l e ms)) ∙ h
+      by_order : ((y : Content) → read_members type_ref beside ms ≡ Ok y → read_members type_ref beside (put k leaf ms) ≡ Ok y) → (o : Ordering) → slice_cmp nat_cmp k l ≡ o
+          → read_members type_ref beside (match_ordering o (member k leaf (member l e ms)) (member l leaf ms) (member l e (put k leaf ms))) ≡ Ok x
+      by_order later Less o = ap (λ r. joined r (read_members type_ref beside (member l e ms))) (marks leaf (λ n. read_at n leaf)) ∙ joined-nothing (read_members type_ref beside (member l e ms)) ∙ h
       by_order later Equal o =
           let same : k ≡ l = ties k l (ap is_eq o) in
           let here : IsMarking l = subst IsMarking same marks in
-          let parts = joined_parts (read_member spot beside l e (λ n. read_at n e)) (read_members spot beside ms) x h in
+          let parts = joined_parts (read_member type_ref beside l e (λ n. read_at n e)) (read_members type_ref beside ms) x h in
           let none : nothing ≡ parts.0 = mark_nothing true e parts.0 (sym (here e (λ n. read_at n e)) ∙ parts.2) in
           ap₂ joined (here leaf (λ n. read_at n leaf)) parts.3 ∙ ap (λ y. Ok (over y parts.1)) none ∙ ap Ok parts.4
       by_order later Greater o =
-          let parts = joined_parts (read_member spot beside l e (λ n. read_at n e)) (read_members spot beside ms) x h in
+          let parts = joined_parts (read_member type_ref beside l e (λ n. read_at n e)) (read_members type_ref beside ms) x h in
           ap₂ joined parts.2 (later parts.1 parts.3) ∙ ap Ok parts.4
 
-  names_read : (names : List (List ℕ)) → AllByRecursion (λ n. IsMarking (name_text n)) names → (ms : Members) (x : Content) → read_members spot beside ms ≡ Ok x → read_members spot beside (put_names names ms) ≡ Ok x
+  names_read : (names : List (List ℕ)) → AllByRecursion (λ n. IsMarking (name_text n)) names → (ms : Members) (x : Content) → read_members type_ref beside ms ≡ Ok x → read_members type_ref beside (put_names names ms) ≡ Ok x
   names_read [] marks ms x h = h
   names_read (n ∷ ns) marks ms x h = names_read ns marks.1 (put (name_text n) leaf ms) x (put_read (name_text n) marks.0 ms x h)
 
-  pub marked_read : (names : List (List ℕ)) → IsMarking dot → AllByRecursion (λ n. IsMarking (name_text n)) names → (ms : Members) (x : Content) → read_members spot beside ms ≡ Ok x
-      → read_members spot beside (put dot leaf (put_names names ms)) ≡ Ok x
+  pub marked_read : (names : List (List ℕ)) → IsMarking dot → AllByRecursion (λ n. IsMarking (name_text n)) names → (ms : Members) (x : Content) → read_members type_ref beside ms ≡ Ok x
+      → read_members type_ref beside (put dot leaf (put_names names ms)) ≡ Ok x
   marked_read names dots marks ms x h = put_read dot dots (put_names names ms) x (names_read names marks ms x h)
 
 -- ---- an item that is written with its marks has them

@@ -11,11 +11,11 @@ use Rattle.std.proofs.lemmas.Map.Text.{is_eq-slice_cmp}
 use Rattle.serde_json.specs.Data.{Data, object, Members, no_members, member, put}
 use Rattle.serde_json.specs.Find.{get_member}
 use Rattle.fieldpath.specs.Scalars.{ascend, ascend_from}
-use Rattle.fieldpath.specs.Spelled.{member_names}
+use Rattle.fieldpath.specs.Encodable.{member_names}
 use Rattle.pathmap.proofs.Heads.{Rises}
 use Rattle.pathmap.proofs.Trees.{ties}
 use Rattle.fieldset.specs.FieldsV1.{each}
-use Rattle.fieldset.proofs.Fronts.{first_of, none_some, second_of}
+use Rattle.fieldset.proofs.Prefixes.{first_of, none_some, second_of}
 
 -- every name is above k
 abbrev pub AllAbove : List ℕ → Members → Type 0

@@ -5,7 +5,7 @@ use Rattle.std.specs.Map.{keys_of}
 use Rattle.serde_json.specs.View.{members_view}
 use Rattle.serde_json.specs.declared.value.Value.{Value}
 use Rattle.fieldpath.specs.Scalars.{ascend}
-use Rattle.fieldpath.specs.Spelled.{member_names}
+use Rattle.fieldpath.specs.Encodable.{member_names}
 use Rattle.fieldpath.proofs.KeyFields.{ascend_keys}
 use Rattle.fieldset.specs.FieldsV1.{is_empty}
 

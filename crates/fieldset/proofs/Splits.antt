@@ -8,7 +8,7 @@ use Rattle.std.specs.Str.{bytes_eq}
 use Rattle.std.proofs.lemmas.Map.Text.{is_eq-slice_cmp}
 use Rattle.std.proofs.lemmas.Slice.Eq.{bytes_eq-Decides}
 use Rattle.fieldpath.specs.Paths.{PathTexts, path_cmp}
-use Rattle.pathmap.specs.Contents.{Standing, Content, mark, under, over, gather}
+use Rattle.pathmap.specs.Contents.{LeafValue, Content, mark, under, over, gather}
 use Rattle.pathmap.specs.Insides.{heads, inside}
 use Rattle.pathmap.proofs.Contents.{either, either-None, get-here-below, get-nothing, get-over, get-under, get-under-top, path_cmp_antisymmetric, same}
 use Rattle.pathmap.proofs.Heads.{heads-inside, no_path}
@@ -16,7 +16,7 @@ use Rattle.pathmap.proofs.Insides.{get-inside}
 use Rattle.pathmap.proofs.Levels.{get-here-top}
 use Rattle.fieldset.specs.FieldsV1.{top}
 
-abbrev pub mark_when : Bool → Option Standing
+abbrev pub mark_when : Bool → Option LeafValue
 mark_when b = cond b (Some mark) None
 
 -- a mark stands wherever something stands
@@ -38,7 +38,7 @@ pub get_top_below : (b : Bool) (g : List ℕ) (t : PathTexts) → fin.get (top b
 get_top_below true g t = get-here-below mark g t
 get_top_below false g t = get-nothing (g ∷ t)
 
-either_same : (o : Option Standing) (l : Bool) → either o (cond l o None) ≡ o
+either_same : (o : Option LeafValue) (l : Bool) → either o (cond l o None) ≡ o
 either_same None true = refl
 either_same None false = refl
 either_same (Some v) l = refl

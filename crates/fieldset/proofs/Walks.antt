@@ -14,8 +14,8 @@ use Rattle.fieldpath.specs.Elements.{field_name}
 use Rattle.fieldpath.specs.Paths.{PathTexts}
 use Rattle.pathmap.specs.Contents.{Content, dom, mark, marked}
 use Rattle.pathmap.specs.Insides.{heads, inside}
-use Rattle.pathmap.specs.Levels.{has_path, standing}
-use Rattle.pathmap.specs.declared.held.Held.{Held}
+use Rattle.pathmap.specs.Levels.{has_path, leaf_value}
+use Rattle.pathmap.specs.declared.held.PathValue.{PathValue}
 use Rattle.pathmap.proofs.Children.{insides}
 use Rattle.pathmap.proofs.Contents.{same}
 use Rattle.pathmap.proofs.Heads.{heads-inside, one_path, one_rising, rising, some_path, Rises}
@@ -60,10 +60,10 @@ heads-marks c = one_rising (heads (marks_in c)) (heads c) (rising (marks_in c)) 
     heads-inside (marks_in c) g ∙ ap has_path (inside-marks c g) ∙ path-marks (inside g c) ∙ sym (heads-inside c g))
 
 -- whether something stands at the top
-pub held_marks : (c : Content) (o : Option (Bor Held)) → option_map (λ h. standing h.now) o ≡ fin.get c [] → is_some (fin.get (marks_in c) []) ≡ is_some o
+pub held_marks : (c : Content) (o : Option (Bor PathValue)) → option_map (λ h. leaf_value h.now) o ≡ fin.get c [] → is_some (fin.get (marks_in c) []) ≡ is_some o
 held_marks c o is = some_marks c [] ∙ ap is_some (sym is) ∙ by_held o
   where
-    by_held : (o : Option (Bor Held)) → is_some (option_map (λ h. standing h.now) o) ≡ is_some o
+    by_held : (o : Option (Bor PathValue)) → is_some (option_map (λ h. leaf_value h.now) o) ≡ is_some o
     by_held None = refl
     by_held (Some h) = refl
 

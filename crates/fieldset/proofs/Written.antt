@@ -1,4 +1,4 @@
--- What is written of a set of placed paths reads as this set.
+-- What is written of a set of well-typed paths reads as this set.
 use Rattle.std.proofs.Common.{◌≡◌, ℕ, zero, suc, ◌<◌, Bool, true, false, cond, not, ◌&&◌, List, [], ◌∷◌, length, None, is_some, Ordering, Less, Equal, Greater, Ok, Err, refl, sym, ap, ap₂, ◌∙◌, true≢false, arith, nat_cmp}
 use Rattle.std.specs.Prelude.{nat_le}
 use Rattle.std.specs.Cmp.Lexicographic.{slice_cmp}
@@ -19,10 +19,10 @@ use Rattle.pathmap.proofs.Order.{dom-marked, get-marked, is_marked}
 use Rattle.json_values.specs.Members.{has}
 use Rattle.schema.specs.Lawful.{depth_limit, depth_of, is_granular_struct, is_lawful, is_type_shape, is_well_formed}
 use Rattle.schema.specs.Shape.{Shape, text, whole, truth, struct_of, map_of, list_of}
-use Rattle.schema.specs.Steps.{Spot, value_of, set_item, map_item, is_leaf}
-use Rattle.fieldset.specs.BothWays.{WrittenIsRead}
+use Rattle.schema.specs.Steps.{TypeRef, value_of, set_item, map_item, is_leaf}
+use Rattle.fieldset.specs.FieldsV1Laws.{WrittenIsRead}
 use Rattle.fieldset.specs.FieldsV1.{each, leaf, members_of, put_names, with_item, Reading, and_then, dot, is_empty, joined, not_canonical, read_at, read_members, top}
-use Rattle.fieldset.proofs.Fronts.{IsGood, IsPlacedAt, Leads, all_lead, base-each, base_at, first_of, good_next, inner_at, inner_of, members_at, none_some, second_of}
+use Rattle.fieldset.proofs.Prefixes.{IsGood, IsWellTypedAt, Reaches, all_lead, base-each, base_at, first_of, good_next, inner_at, inner_of, members_at, none_some, second_of}
 use Rattle.fieldset.proofs.Marks.{IsRead, dot_marks, each_read, has_all, keys_mark, marked_read, no_dot}
 use Rattle.schema.proofs.Places.{item_next_none, leaf_next, next, place-here}
 use Rattle.fieldset.proofs.Splits.{IsBounded, IsMarks, absent, bounded, each_inside, mark_when, marks_inside, split, total}
@@ -36,9 +36,9 @@ heads_or_top c has none = let q = some_path c has in by_path q.0 q.1
     by_path [] is = is
     by_path (g ∷ t) is = absurd (true≢false (sym is ∙ ap is_some (absent c g t (ap (list_any (bytes_eq g)) none))))
 
-none_lead : (spot : Spot) (c : Content) → ((e : List ℕ) → next spot e ≡ None) → (hs : List (List ℕ)) → AllByRecursion (Leads spot c) hs → hs ≡ []
-none_lead spot c none [] h = refl
-none_lead spot c none (e ∷ hs) h = absurd (none_some h.0.0 (sym (none e) ∙ h.0.1))
+none_lead : (type_ref : TypeRef) (c : Content) → ((e : List ℕ) → next type_ref e ≡ None) → (hs : List (List ℕ)) → AllByRecursion (Reaches type_ref c) hs → hs ≡ []
+none_lead type_ref c none [] h = refl
+none_lead type_ref c none (e ∷ hs) h = absurd (none_some h.0.0 (sym (none e) ∙ h.0.1))
 
 not_empty : (f : List ℕ → Members) (hs : List (List ℕ)) → (hs ≡ [] → ⊥) → is_empty (each f hs) ≡ false
 not_empty f [] some = absurd (some refl)
@@ -62,25 +62,25 @@ module _ (c : Content) (marks : IsMarks c) (has_one : has_path c ≡ true) where
   no_top : is_some (fin.get c []) ≡ false → heads c ≡ [] → ⊥
   no_top none no_heads = true≢false (sym (heads_or_top c has_one no_heads) ∙ none)
 
-  module _ (spot : Spot) (lead : AllByRecursion (Leads spot c) (heads c)) (facts : AllByRecursion (IsRead spot (inner_of spot c) c) (heads c)) (base : base_at spot c ≡ each (inner_of spot c) (heads c)) where
-    base_read : (beside : Members) → read_members spot beside (base_at spot c) ≡ Ok (gather (each_inside c (heads c)))
-    base_read beside = ap (read_members spot beside) base ∙ each_read spot beside (inner_of spot c) c (heads c) facts
+  module _ (type_ref : TypeRef) (lead : AllByRecursion (Reaches type_ref c) (heads c)) (facts : AllByRecursion (IsRead type_ref (inner_of type_ref c) c) (heads c)) (base : base_at type_ref c ≡ each (inner_of type_ref c) (heads c)) where
+    base_read : (beside : Members) → read_members type_ref beside (base_at type_ref c) ≡ Ok (gather (each_inside c (heads c)))
+    base_read beside = ap (read_members type_ref beside) base ∙ each_read type_ref beside (inner_of type_ref c) c (heads c) facts
 
-    base_some : is_some (fin.get c []) ≡ false → is_empty (base_at spot c) ≡ false
-    base_some none = ap is_empty base ∙ not_empty (inner_of spot c) (heads c) (no_top none)
+    base_some : is_some (fin.get c []) ≡ false → is_empty (base_at type_ref c) ≡ false
+    base_some none = ap is_empty base ∙ not_empty (inner_of type_ref c) (heads c) (no_top none)
 
-    base_no_dot : has dot (base_at spot c) ≡ false
-    base_no_dot = ap (has dot) base ∙ no_dot spot (base_at spot c) (inner_of spot c) c (heads c) facts
+    base_no_dot : has dot (base_at type_ref c) ≡ false
+    base_no_dot = ap (has dot) base ∙ no_dot type_ref (base_at type_ref c) (inner_of type_ref c) c (heads c) facts
 
-  front : (spot : Spot) → IsPlacedAt spot c → AllByRecursion (Leads spot c) (heads c) → AllByRecursion (IsRead spot (inner_of spot c) c) (heads c) → base_at spot c ≡ each (inner_of spot c) (heads c)
-      → read_at spot (object (members_at spot c)) ≡ Ok c
-  front (value_of s) placed lead facts base = by_leaf (is_leaf s) refl
+  prefix : (type_ref : TypeRef) → IsWellTypedAt type_ref c → AllByRecursion (Reaches type_ref c) (heads c) → AllByRecursion (IsRead type_ref (inner_of type_ref c) c) (heads c) → base_at type_ref c ≡ each (inner_of type_ref c) (heads c)
+      → read_at type_ref (object (members_at type_ref c)) ≡ Ok c
+  prefix (value_of s) well_typed lead facts base = by_leaf (is_leaf s) refl
     where
       reads : read_members (value_of s) (members_of s c) (members_of s c) ≡ Ok (gather (each_inside c (heads c)))
       reads = base_read (value_of s) lead facts base (members_of s c)
 
       by_top : (b : Bool) → is_some (fin.get c []) ≡ b → is_leaf s ≡ false → b ≡ false
-      by_top true is h = absurd (true≢false (sym (placed [] is) ∙ place-here s ∙ h))
+      by_top true is h = absurd (true≢false (sym (well_typed [] is) ∙ place-here s ∙ h))
       by_top false is h = refl
 
       by_leaf : (b : Bool) → is_leaf s ≡ b → cond (not b && is_empty (members_of s c)) (Err not_canonical) (joined (Ok (top b)) (read_members (value_of s) (members_of s c) (members_of s c))) ≡ Ok c
@@ -88,9 +88,9 @@ module _ (c : Content) (marks : IsMarks c) (has_one : has_path c ≡ true) where
       by_leaf false h =
           let none = by_top (is_some (fin.get c [])) refl h in
           closes false (is_empty (members_of s c)) (read_members (value_of s) (members_of s c) (members_of s c)) (base_some (value_of s) lead facts base none) (sym none) reads
-  front set_item placed lead facts base =
+  prefix set_item well_typed lead facts base =
       closes true false (read_members set_item no_members no_members) refl (sym (heads_or_top c has_one (none_lead set_item c item_next_none (heads c) lead))) (base_read set_item lead facts base no_members)
-  front (map_item names all) placed lead facts base = by_mark (is_some (fin.get c [])) refl
+  prefix (map_item names all) well_typed lead facts base = by_mark (is_some (fin.get c [])) refl
     where
       by_mark : (b : Bool) → is_some (fin.get c []) ≡ b → read_at (map_item names all) (object (with_item b names (members_of (struct_of all false) c))) ≡ Ok c
       by_mark true h =
@@ -106,13 +106,13 @@ module _ (c : Content) (marks : IsMarks c) (has_one : has_path c ≡ true) where
 -- ---- all levels, by how long the paths are
 
 abbrev Reads : ℕ → Type 0
-Reads n = (spot : Spot) → IsGood spot → (c : Content) → IsBounded n c → IsPlacedAt spot c → IsMarks c → has_path c ≡ true → read_at spot (object (members_at spot c)) ≡ Ok c
+Reads n = (type_ref : TypeRef) → IsGood type_ref → (c : Content) → IsBounded n c → IsWellTypedAt type_ref c → IsMarks c → has_path c ≡ true → read_at type_ref (object (members_at type_ref c)) ≡ Ok c
 
-reads_all : (n : ℕ) → Reads n → (spot : Spot) → IsGood spot → (c : Content) → IsBounded (suc n) c → IsMarks c → (hs : List (List ℕ)) → AllByRecursion (Leads spot c) hs → AllByRecursion (IsRead spot (inner_of spot c) c) hs
-reads_all n reads spot good c bounds marks [] h = tt
-reads_all n reads spot good c bounds marks (e ∷ hs) h = (
-  (h.0.0, h.0.1, ap (λ o. read_at h.0.0 (object (inner_at o (inside e c)))) h.0.1 ∙ reads h.0.0 (good_next spot good e h.0.0 h.0.1) (inside e c) shorter h.0.3 (marks_inside c e marks) h.0.2),
-  reads_all n reads spot good c bounds marks hs h.1,
+reads_all : (n : ℕ) → Reads n → (type_ref : TypeRef) → IsGood type_ref → (c : Content) → IsBounded (suc n) c → IsMarks c → (hs : List (List ℕ)) → AllByRecursion (Reaches type_ref c) hs → AllByRecursion (IsRead type_ref (inner_of type_ref c) c) hs
+reads_all n reads type_ref good c bounds marks [] h = tt
+reads_all n reads type_ref good c bounds marks (e ∷ hs) h = (
+  (h.0.0, h.0.1, ap (λ o. read_at h.0.0 (object (inner_at o (inside e c)))) h.0.1 ∙ reads h.0.0 (good_next type_ref good e h.0.0 h.0.1) (inside e c) shorter h.0.3 (marks_inside c e marks) h.0.2),
+  reads_all n reads type_ref good c bounds marks hs h.1,
 )
   where
     shorter : IsBounded n (inside e c)
@@ -121,13 +121,13 @@ reads_all n reads spot good c bounds marks (e ∷ hs) h = (
         omega (arith, short)
 
 reads : (n : ℕ) → Reads n
-reads zero spot good c bounds placed marks has_one =
+reads zero type_ref good c bounds well_typed marks has_one =
     let q = some_path c has_one in
     let short : length q.0 < 0 = bounds q.0 q.1 in
     absurd (omega (arith, short))
-reads (suc n) spot good c bounds placed marks has_one =
-    let lead = all_lead spot c placed in
-    front c marks has_one spot placed lead (reads_all n (reads n) spot good c bounds marks (heads c) lead) (base-each spot good c lead)
+reads (suc n) type_ref good c bounds well_typed marks has_one =
+    let lead = all_lead type_ref c well_typed in
+    prefix c marks has_one type_ref well_typed lead (reads_all n (reads n) type_ref good c bounds marks (heads c) lead) (base-each type_ref good c lead)
 
 -- ---- at the root
 
@@ -150,22 +150,22 @@ pub marked_marks : (paths : PathSet) → IsMarks (marked paths)
 marked_marks paths p = get-marked paths p ∙ ap mark_when (sym (is_marked paths p))
 
 pub written : WrittenIsRead
-written s paths type_shape placed =
+written s paths type_shape well_typed =
     let c = marked paths in
-    let placed_c : IsPlacedAt (value_of s) c = λ p is. placed p (sym (is_marked paths p) ∙ is) in
+    let well_typed_c : IsWellTypedAt (value_of s) c = λ p is. well_typed p (sym (is_marked paths p) ∙ is) in
     let good = type_good s type_shape in
-    let lead = all_lead (value_of s) c placed_c in
+    let lead = all_lead (value_of s) c well_typed_c in
     let n = total (fin.keys c) in
     let facts = reads_all n (reads n) (value_of s) good c (bounded c) (marked_marks paths) (heads c) lead in
     let read : read_members (value_of s) (members_of s c) (members_of s c) ≡ Ok (gather (each_inside c (heads c))) =
     ap (read_members (value_of s) (members_of s c)) (base-each (value_of s) good c lead) ∙ each_read (value_of s) (members_of s c) (inner_of (value_of s) c) c (heads c) facts in
     let whole_is : gather (each_inside c (heads c)) ≡ c =
-    sym (nothing-over (gather (each_inside c (heads c)))) ∙ ap (λ b. over (top b) (gather (each_inside c (heads c)))) (sym (no_top_here c placed_c)) ∙ split c (marked_marks paths) in
+    sym (nothing-over (gather (each_inside c (heads c)))) ∙ ap (λ b. over (top b) (gather (each_inside c (heads c)))) (sym (no_top_here c well_typed_c)) ∙ split c (marked_marks paths) in
     ap (λ r. and_then r (λ d. Ok (dom d))) read ∙ ap (λ d. Ok (dom d)) whole_is ∙ ap Ok (dom-marked paths)
   where
-    no_top_here : (c : Content) → IsPlacedAt (value_of s) c → is_some (fin.get c []) ≡ false
-    no_top_here c placed_c = by_top (is_some (fin.get c [])) refl
+    no_top_here : (c : Content) → IsWellTypedAt (value_of s) c → is_some (fin.get c []) ≡ false
+    no_top_here c well_typed_c = by_top (is_some (fin.get c [])) refl
       where
         by_top : (b : Bool) → is_some (fin.get c []) ≡ b → b ≡ false
-        by_top true is = absurd (true≢false (sym (placed_c [] is) ∙ place-here s ∙ type_not_leaf s type_shape))
+        by_top true is = absurd (true≢false (sym (well_typed_c [] is) ∙ place-here s ∙ type_not_leaf s type_shape))
         by_top false is = refl

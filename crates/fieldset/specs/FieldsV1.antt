@@ -14,7 +14,7 @@ use Rattle.pathmap.specs.Contents.{Content, PathSet, mark, marked, nothing, here
 use Rattle.pathmap.specs.Insides.{inside, heads}
 use Rattle.schema.specs.Shape.{atomic, set, keyed, Shape, text, whole, truth, struct_of, map_of, list_of, Fields, no_fields, field}
 use Rattle.json_values.specs.Members.{has}
-use Rattle.schema.specs.Steps.{Spot, value_of, set_item, map_item, is_leaf, step}
+use Rattle.schema.specs.Steps.{TypeRef, value_of, set_item, map_item, is_leaf, step}
 
 -- ---- printed: the value of a set of paths, a trie of objects, each member named by the text of an element
 
@@ -39,7 +39,7 @@ is_name known None = false
 is_name known (Some f) = bytes_eq known f
 
 abbrev mutual
-  -- the members at a front that has this shape, of the paths of a content; none below a leaf
+  -- the members at a prefix that has this shape, of the paths of a content; none below a leaf
   pub members_of : Shape → Content → Members
   members_of text c = no_members
   members_of whole c = no_members
@@ -107,7 +107,7 @@ dot = codes "."
 -- ---- what says of an item of a map list that it is in the set: `.` and its key fields, all or none of them
 
 -- a field that stands in the item's own element
-abbrev pub is_key_field : Spot → Element → Bool
+abbrev pub is_key_field : TypeRef → Element → Bool
 is_key_field (map_item names all) (element.field f) = list_any (bytes_eq f) names
 is_key_field (map_item names all) (element.key ks) = false
 is_key_field (map_item names all) (element.value v) = false
@@ -117,7 +117,7 @@ is_key_field set_item e = false
 abbrev pub has_keys : List (List ℕ) → Members → Bool
 has_keys names ms = list_all (λ n. has (name_text n) ms) names
 
-abbrev pub may_have_dot : Spot → Members → Bool
+abbrev pub may_have_dot : TypeRef → Members → Bool
 may_have_dot (map_item names all) ms = has_keys names ms
 may_have_dot (value_of s) ms = false
 may_have_dot set_item ms = false
@@ -129,7 +129,7 @@ read_mark is_due d = and_then (object_in d) (λ ms. if is_due && is_empty ms the
 -- ---- what stands at a spot
 
 -- whether the path that leads here is in the set
-abbrev pub is_marked : Spot → Members → Bool
+abbrev pub is_marked : TypeRef → Members → Bool
 is_marked (value_of s) ms = is_leaf s
 is_marked set_item ms = true
 is_marked (map_item names all) ms = has dot ms
@@ -139,7 +139,7 @@ top true = here mark
 top false = nothing
 
 -- only at a leaf and at an item of a set is an object empty
-abbrev pub needs_members : Spot → Bool
+abbrev pub needs_members : TypeRef → Bool
 needs_members (value_of s) = not (is_leaf s)
 needs_members set_item = false
 needs_members (map_item names all) = true
@@ -148,25 +148,25 @@ abbrev pub read_below : List ℕ → Reading → Reading
 read_below k read = and_then read (λ c. Ok (under k c))
 
 -- a member, beside all members of its object
-abbrev pub read_member : Spot → Members → List ℕ → Data → (Spot → Reading) → Reading
-read_member spot beside k d inner =
-    if bytes_eq k dot then read_mark (may_have_dot spot beside) d
+abbrev pub read_member : TypeRef → Members → List ℕ → Data → (TypeRef → Reading) → Reading
+read_member type_ref beside k d inner =
+    if bytes_eq k dot then read_mark (may_have_dot type_ref beside) d
     else and_then (element_in (read_element k)) (λ e.
-    if is_key_field spot e then read_mark (has dot beside) d
-    else and_then (some_or off_schema (step spot e)) (λ next. read_below k (inner next)))
+    if is_key_field type_ref e then read_mark (has dot beside) d
+    else and_then (some_or off_schema (step type_ref e)) (λ next. read_below k (inner next)))
 
 abbrev mutual
-  pub read_at : Spot → Data → Reading
-  read_at spot null = Err not_an_object
-  read_at spot (boolean b) = Err not_an_object
-  read_at spot (number n) = Err not_an_object
-  read_at spot (string s) = Err not_an_object
-  read_at spot (array ds) = Err not_an_object
-  read_at spot (object ms) = if needs_members spot && is_empty ms then Err not_canonical else joined (Ok (top (is_marked spot ms))) (read_members spot ms ms)
+  pub read_at : TypeRef → Data → Reading
+  read_at type_ref null = Err not_an_object
+  read_at type_ref (boolean b) = Err not_an_object
+  read_at type_ref (number n) = Err not_an_object
+  read_at type_ref (string s) = Err not_an_object
+  read_at type_ref (array ds) = Err not_an_object
+  read_at type_ref (object ms) = if needs_members type_ref && is_empty ms then Err not_canonical else joined (Ok (top (is_marked type_ref ms))) (read_members type_ref ms ms)
 
-  pub read_members : Spot → Members → Members → Reading
-  read_members spot beside no_members = Ok nothing
-  read_members spot beside (member k d ms) = joined (read_member spot beside k d (λ next. read_at next d)) (read_members spot beside ms)
+  pub read_members : TypeRef → Members → Members → Reading
+  read_members type_ref beside no_members = Ok nothing
+  read_members type_ref beside (member k d ms) = joined (read_member type_ref beside k d (λ next. read_at next d)) (read_members type_ref beside ms)
 
 -- the set of paths that a value says; `{}` is the empty set
 abbrev pub read_fields_v1 : Shape → Data → Result PathSet Refusal

@@ -1,4 +1,4 @@
 pub mod FieldsV1
 pub mod Below
-pub mod Seen
-pub mod BothWays
+pub mod Views
+pub mod FieldsV1Laws

@@ -1,9 +1,9 @@
 //! Laws: what is written of a set as FieldsV1 is read as this set, and the other way round. Sets are written and read in
 //! `fields_v1`.
 
-ghost use Rattle.fieldset.specs.BothWays.{ReadHavePlaces, ReadIsWritten, WrittenIsRead};
+ghost use Rattle.fieldset.specs.FieldsV1Laws.{ReadHavePlaces, ReadIsWritten, WrittenIsRead};
 
-/// What is written of a set of placed paths is read as this set.
+/// What is written of a set of well-typed paths is read as this set.
 pub fn written_is_read()
     ensures { WrittenIsRead }
 {}

@@ -8,7 +8,7 @@ ghost use Rattle.json.specs.Value as borrowed;
 ghost use Rattle.serde_json.specs.View.{members_view};
 ghost use Rattle.serde_json.specs.Written.{compact_text};
 ghost use Rattle.fieldpath.specs.Elements.{field, field_name};
-ghost use Rattle.fieldpath.specs.Elems.{element};
+ghost use Rattle.fieldpath.specs.ElementViews.{element};
 ghost use Rattle.json_values.specs.Members.{has};
 ghost use Rattle.json_texts.specs.InOrder.{are_ordered, data_of, is_ordered, members_data};
 ghost use Rattle.json_texts.specs.Writing.{with_text};
@@ -16,16 +16,16 @@ ghost use Rattle.pathmap.specs.Contents.{dom, marked, nothing};
 ghost use Rattle.pathmap.specs.Maps.{content};
 ghost use Rattle.schema.specs.KeyNames.{names_in};
 ghost use Rattle.schema.specs.Shape.{fields_in, shape, shape_at};
-ghost use Rattle.schema.specs.Spots.{spot};
+ghost use Rattle.schema.specs.TypeRefs.{type_ref};
 ghost use Rattle.fieldset.specs.Below.{as_item, members_some, members_under, shape_below};
 ghost use Rattle.fieldset.specs.FieldsV1.{dot, has_keys, is_empty, is_key_field, is_marked, leaf, may_have_dot, needs_members, object_in, put_names, read_at, read_fields_v1, read_mark, read_members};
-ghost use Rattle.fieldset.specs.Seen.{Gives, IsNamed, Reads, mark_by, member_view, next_at, next_of, read_named, stepped};
+ghost use Rattle.fieldset.specs.Views.{Returns, IsNamed, Reads, mark_by, member_view, next_at, next_of, read_named, stepped};
 
 use crate::fault::FieldsV1Fault;
 use fieldpath::{Elem, ElemFault, ElemText};
 use json_texts::{TextWriter, as_object, member};
 use pathmap::PathMap;
-use schema::{ListKind, Schema, Spot, field_at, is_key};
+use schema::{ListKind, Schema, TypeRef, field_at, is_key};
 use serde_json::{Map, Value};
 use std::alloc::{AllocError, Global};
 
@@ -193,30 +193,30 @@ pub(crate) struct Member {
 }
 
 /// Whether an object that stands here must have members.
-pub(crate) fn needs_members(here: Spot<'_>) -> bool
-    ensures { result ≡ needs_members (spot here.entry) }
+pub(crate) fn needs_members(here: TypeRef<'_>) -> bool
+    ensures { result ≡ needs_members (type_ref here.entry) }
 {
     match here {
-        Spot::Value(schema) => !schema.is_leaf(),
-        Spot::SetItem => false,
-        Spot::MapItem(_, _) => true,
+        TypeRef::Value(schema) => !schema.is_leaf(),
+        TypeRef::SetItem => false,
+        TypeRef::MapItem(_, _) => true,
     }
 }
 
 /// Whether the path that leads here is in the set, by whether `.` stands here.
-pub(crate) fn is_marked(here: Spot<'_>, has_dot: bool) -> bool
-    ensures { (ms : Members) → has_dot ≡ has dot ms → result ≡ is_marked (spot here.entry) ms }
+pub(crate) fn is_marked(here: TypeRef<'_>, has_dot: bool) -> bool
+    ensures { (ms : Members) → has_dot ≡ has dot ms → result ≡ is_marked (type_ref here.entry) ms }
 {
     match here {
-        Spot::Value(schema) => schema.is_leaf(),
-        Spot::SetItem => true,
-        Spot::MapItem(_, _) => has_dot,
+        TypeRef::Value(schema) => schema.is_leaf(),
+        TypeRef::SetItem => true,
+        TypeRef::MapItem(_, _) => has_dot,
     }
 }
 
 /// Checks that `.` or a key field may stand where it does, and that its value is `{}`.
 pub(crate) fn check_mark(is_due: bool, is_empty: bool) -> Result<(), FieldsV1Fault>
-    ensures { Gives (λ _. nothing) result (mark_by is_due is_empty) }
+    ensures { Returns (λ _. nothing) result (mark_by is_due is_empty) }
 {
     if is_due && is_empty {
         Ok(())
@@ -226,18 +226,18 @@ pub(crate) fn check_mark(is_due: bool, is_empty: bool) -> Result<(), FieldsV1Fau
 }
 
 /// Whether the field of this name is a key field of the item that stands here.
-fn is_key_name(here: Spot<'_>, name: &str) -> bool
-    ensures { result ≡ is_key_field (spot here.entry) (field name.now) }
+fn is_key_name(here: TypeRef<'_>, name: &str) -> bool
+    ensures { result ≡ is_key_field (type_ref here.entry) (field name.now) }
 {
     match here {
-        Spot::MapItem(_, names) => is_key(names, name),
-        Spot::Value(_) | Spot::SetItem => false,
+        TypeRef::MapItem(_, names) => is_key(names, name),
+        TypeRef::Value(_) | TypeRef::SetItem => false,
     }
 }
 
 /// Where the field of this name leads; none where it is a key field of the item that stands here.
-fn next_field<'a>(here: Spot<'a>, name: &str) -> Result<Option<Spot<'a>>, FieldsV1Fault>
-    ensures { Gives (option_map spot) result (next_at (spot here.entry) (field name.now)) }
+fn next_field<'a>(here: TypeRef<'a>, name: &str) -> Result<Option<TypeRef<'a>>, FieldsV1Fault>
+    ensures { Returns (option_map type_ref) result (next_at (type_ref here.entry) (field name.now)) }
 {
     if is_key_name(here, name) {
         return Ok(None);
@@ -249,8 +249,8 @@ fn next_field<'a>(here: Spot<'a>, name: &str) -> Result<Option<Spot<'a>>, Fields
 }
 
 /// Where an element that is no field leads. Key fields are fields, so it is that of none.
-fn next_elem<'a>(here: Spot<'a>, elem: &Elem) -> Result<Option<Spot<'a>>, FieldsV1Fault>
-    ensures { Gives (option_map spot) result (stepped (spot here.entry) (element elem.now)) }
+fn next_elem<'a>(here: TypeRef<'a>, elem: &Elem) -> Result<Option<TypeRef<'a>>, FieldsV1Fault>
+    ensures { Returns (option_map type_ref) result (stepped (type_ref here.entry) (element elem.now)) }
 {
     match here.step(elem) {
         Some(next) => Ok(Some(next)),
@@ -260,11 +260,11 @@ fn next_elem<'a>(here: Spot<'a>, elem: &Elem) -> Result<Option<Spot<'a>>, Fields
 
 /// Where an element leads; none where it is a key field's of the item that stands here.
 fn next_of<'a>(
-    here: Spot<'a>,
+    here: TypeRef<'a>,
     alloc: Global,
     element: &ElemText,
-) -> Result<Option<Spot<'a>>, FieldsV1Fault>
-    ensures { Gives (option_map spot) result (next_of (spot here.entry) (string_bytes element.now)) }
+) -> Result<Option<TypeRef<'a>>, FieldsV1Fault>
+    ensures { Returns (option_map type_ref) result (next_of (type_ref here.entry) (string_bytes element.now)) }
 {
     match element.field_name() {
         Some(name) => next_field(here, name),
@@ -284,11 +284,11 @@ fn text_of(alloc: Global, name: &str) -> Result<ElemText, FieldsV1Fault>
 
 /// The element whose text a name is, and where it leads.
 pub(crate) fn element_of<'a>(
-    here: Spot<'a>,
+    here: TypeRef<'a>,
     alloc: Global,
     name: &str,
-) -> Result<(ElemText, Option<Spot<'a>>), FieldsV1Fault>
-    ensures next { Gives (λ p. option_map spot p.1) result (next_of (spot here.entry) name.now) }
+) -> Result<(ElemText, Option<TypeRef<'a>>), FieldsV1Fault>
+    ensures next { Returns (λ p. option_map type_ref p.1) result (next_of (type_ref here.entry) name.now) }
     ensures named { IfOk result (λ p. string_bytes p.0 ≡ name.now) }
 {
     let text = text_of(alloc, name)?;
@@ -299,7 +299,7 @@ pub(crate) fn element_of<'a>(
 fn object_of<'v, 'a>(
     value: &'v json::Value<'a>,
 ) -> Result<&'v [(&'a str, json::Value<'a>)], FieldsV1Fault>
-    ensures value { Gives (λ m. members_data (borrowed.members_view m.now)) result (object_in (data_of (borrowed.value_view value.now))) }
+    ensures value { Returns (λ m. members_data (borrowed.members_view m.now)) result (object_in (data_of (borrowed.value_view value.now))) }
     ensures ordered { is_ordered (borrowed.value_view value.now) ≡ true → IfOk result (λ m. are_ordered (borrowed.members_view m.now) ≡ true) }
 {
     match as_object(value) {
@@ -337,21 +337,21 @@ fn has_keys<'a>(
 }
 
 fn may_have_dot<'a>(
-    here: Spot<'_>,
+    here: TypeRef<'_>,
     alloc: Global,
     members: &[(&'a str, json::Value<'a>)],
 ) -> Result<bool, AllocError>
-    ensures { IfOk result (λ b. b ≡ may_have_dot (spot here.entry) (members_data (borrowed.members_view members.now))) }
+    ensures { IfOk result (λ b. b ≡ may_have_dot (type_ref here.entry) (members_data (borrowed.members_view members.now))) }
 {
     match here {
-        Spot::MapItem(_, names) => has_keys(names, alloc, members),
-        Spot::Value(_) | Spot::SetItem => Ok(false),
+        TypeRef::MapItem(_, names) => has_keys(names, alloc, members),
+        TypeRef::Value(_) | TypeRef::SetItem => Ok(false),
     }
 }
 
 /// Checks that `.` or a key field may stand here, and that its value is `{}`.
 fn read_mark(is_due: bool, value: &json::Value<'_>) -> Result<(), FieldsV1Fault>
-    ensures { Gives (λ _. nothing) result (read_mark is_due (data_of (borrowed.value_view value.now))) }
+    ensures { Returns (λ _. nothing) result (read_mark is_due (data_of (borrowed.value_view value.now))) }
 {
     let members = object_of(value)?;
     check_mark(is_due, is_empty(members))
@@ -362,12 +362,12 @@ fn read_mark(is_due: bool, value: &json::Value<'_>) -> Result<(), FieldsV1Fault>
 fn read_member<'a>(
     value: &json::Value<'a>,
     alloc: Global,
-    here: Spot<'_>,
+    here: TypeRef<'_>,
     beside: &[(&'a str, json::Value<'a>)],
     name: &str,
 ) -> Result<Option<Member>, FieldsV1Fault>
     requires { is_ordered (borrowed.value_view value.now) ≡ true }
-    ensures read { Gives member_view result (read_named (spot here.entry) (members_data (borrowed.members_view beside.now)) name.now (data_of (borrowed.value_view value.now)) (λ next. read_at next (data_of (borrowed.value_view value.now)))) }
+    ensures read { Returns member_view result (read_named (type_ref here.entry) (members_data (borrowed.members_view beside.now)) name.now (data_of (borrowed.value_view value.now)) (λ next. read_at next (data_of (borrowed.value_view value.now)))) }
     ensures named { IfOk result (λ m. IsNamed m name.now) }
 {
     if name == "." {
@@ -388,10 +388,10 @@ fn read_member<'a>(
 fn read_members<'a>(
     members: &[(&'a str, json::Value<'a>)],
     alloc: Global,
-    here: Spot<'_>,
+    here: TypeRef<'_>,
 ) -> Result<PathMap, FieldsV1Fault>
     requires { are_ordered (borrowed.members_view members.now) ≡ true }
-    ensures { Gives content result (read_members (spot here.entry) (members_data (borrowed.members_view members.now)) (members_data (borrowed.members_view members.now))) }
+    ensures { Returns content result (read_members (type_ref here.entry) (members_data (borrowed.members_view members.now)) (members_data (borrowed.members_view members.now))) }
 {
     let mut map = PathMap::with_room(alloc, members.len())?;
     for (name, value) in members {
@@ -404,9 +404,13 @@ fn read_members<'a>(
 }
 
 #[cycle(read)]
-fn read_at(value: &json::Value<'_>, alloc: Global, here: Spot<'_>) -> Result<PathMap, FieldsV1Fault>
+fn read_at(
+    value: &json::Value<'_>,
+    alloc: Global,
+    here: TypeRef<'_>,
+) -> Result<PathMap, FieldsV1Fault>
     requires { is_ordered (borrowed.value_view value.now) ≡ true }
-    ensures { Gives content result (read_at (spot here.entry) (data_of (borrowed.value_view value.now))) }
+    ensures { Returns content result (read_at (type_ref here.entry) (data_of (borrowed.value_view value.now))) }
 {
     let json::Value::Object(members) = value else {
         return Err(FieldsV1Fault::NotAnObject);
@@ -429,8 +433,8 @@ pub(crate) fn read_paths(
     value: &json::Value<'_>,
 ) -> Result<PathMap, FieldsV1Fault>
     requires { is_ordered (borrowed.value_view value.now) ≡ true }
-    ensures { Gives (λ m. dom (content m)) result (read_fields_v1 (shape schema.now) (data_of (borrowed.value_view value.now))) }
+    ensures { Returns (λ m. dom (content m)) result (read_fields_v1 (shape schema.now) (data_of (borrowed.value_view value.now))) }
 {
     let members = object_of(value)?;
-    read_members(members, alloc, Spot::Value(schema))
+    read_members(members, alloc, TypeRef::Value(schema))
 }

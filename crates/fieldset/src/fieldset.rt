@@ -13,13 +13,13 @@ ghost use Rattle.serde_json.specs.View.{view};
 ghost use Rattle.serde_json.specs.Written.{compact_text};
 ghost use Rattle.schema.specs.Shape.{shape};
 ghost use Rattle.fieldset.specs.FieldsV1.{fields_v1_of, read_fields_v1};
-ghost use Rattle.fieldset.specs.Seen.{Gives};
+ghost use Rattle.fieldset.specs.Views.{Returns};
 
 use crate::fault::FieldsV1Fault;
 use crate::{fields_v1, values};
 use fieldpath::Path;
 use json_texts::TextWriter;
-use pathmap::{Held, PathMap, put_under};
+use pathmap::{PathMap, PathValue, put_under};
 use schema::Schema;
 use serde_json::Value;
 use std::alloc::{AllocError, Global};
@@ -74,7 +74,7 @@ impl FieldSet {
         ensures ok { OnOk result (self.new ≡ set.insert self.old path.now) }
         ensures err { OnErr result (self.new ≡ self.old) }
     {
-        self.map.insert(alloc, path, Held::Mark)
+        self.map.insert(alloc, path, PathValue::Mark)
     }
 
     /// Whether it has the path.
@@ -177,7 +177,7 @@ impl FieldSet {
         schema: &Schema,
         value: &Value,
     ) -> Result<FieldSet, FieldsV1Fault>
-        ensures { Gives (λ s. s) result (read_fields_v1 (shape schema.now) (view value.now)) }
+        ensures { Returns (λ s. s) result (read_fields_v1 (shape schema.now) (view value.now)) }
     {
         Ok(FieldSet {
             map: values::read_paths(alloc, schema, value)?,
@@ -191,7 +191,7 @@ impl FieldSet {
         value: &json::Value<'_>,
     ) -> Result<FieldSet, FieldsV1Fault>
         requires { is_ordered (value_view value.now) ≡ true }
-        ensures { Gives (λ s. s) result (read_fields_v1 (shape schema.now) (data_of (value_view value.now))) }
+        ensures { Returns (λ s. s) result (read_fields_v1 (shape schema.now) (data_of (value_view value.now))) }
     {
         Ok(FieldSet {
             map: fields_v1::read_paths(alloc, schema, value)?,

@@ -7,21 +7,21 @@ ghost use Rattle.pathmap.specs.Contents.{dom, nothing};
 ghost use Rattle.pathmap.specs.Maps.{content};
 ghost use Rattle.schema.specs.KeyNames.{names_in};
 ghost use Rattle.schema.specs.Shape.{shape};
-ghost use Rattle.schema.specs.Spots.{spot};
+ghost use Rattle.schema.specs.TypeRefs.{type_ref};
 ghost use Rattle.fieldset.specs.FieldsV1.{has_keys, is_empty, may_have_dot, object_in, read_at, read_fields_v1, read_mark, read_members};
-ghost use Rattle.fieldset.specs.Seen.{Gives, IsNamed, member_view, read_named};
+ghost use Rattle.fieldset.specs.Views.{Returns, IsNamed, member_view, read_named};
 
 use crate::fault::FieldsV1Fault;
 use crate::fields_v1::{Member, check_mark, element_of, is_marked, needs_members};
 use fieldpath::ElemText;
 use json_values::has;
 use pathmap::PathMap;
-use schema::{Schema, Spot};
+use schema::{Schema, TypeRef};
 use serde_json::{Map, Value};
 use std::alloc::{AllocError, Global};
 
 fn object_of(value: &Value) -> Result<&Map<String, Value>, FieldsV1Fault>
-    ensures { Gives (λ m. members_view m.now.entries) result (object_in (view value.now)) }
+    ensures { Returns (λ m. members_view m.now.entries) result (object_in (view value.now)) }
 {
     match value.as_object() {
         Some(members) => Ok(members),
@@ -52,21 +52,21 @@ fn has_keys(
 }
 
 fn may_have_dot(
-    here: Spot<'_>,
+    here: TypeRef<'_>,
     alloc: Global,
     members: &Map<String, Value>,
 ) -> Result<bool, AllocError>
-    ensures { IfOk result (λ b. b ≡ may_have_dot (spot here.entry) (members_view members.now.entries)) }
+    ensures { IfOk result (λ b. b ≡ may_have_dot (type_ref here.entry) (members_view members.now.entries)) }
 {
     match here {
-        Spot::MapItem(_, names) => has_keys(names, alloc, members),
-        Spot::Value(_) | Spot::SetItem => Ok(false),
+        TypeRef::MapItem(_, names) => has_keys(names, alloc, members),
+        TypeRef::Value(_) | TypeRef::SetItem => Ok(false),
     }
 }
 
 /// Checks that `.` or a key field may stand here, and that its value is `{}`.
 fn read_mark(is_due: bool, value: &Value) -> Result<(), FieldsV1Fault>
-    ensures { Gives (λ _. nothing) result (read_mark is_due (view value.now)) }
+    ensures { Returns (λ _. nothing) result (read_mark is_due (view value.now)) }
 {
     let members = object_of(value)?;
     check_mark(is_due, is_empty(members))
@@ -77,11 +77,11 @@ fn read_mark(is_due: bool, value: &Value) -> Result<(), FieldsV1Fault>
 fn read_member(
     value: &Value,
     alloc: Global,
-    here: Spot<'_>,
+    here: TypeRef<'_>,
     beside: &Map<String, Value>,
     name: &str,
 ) -> Result<Option<Member>, FieldsV1Fault>
-    ensures read { Gives member_view result (read_named (spot here.entry) (members_view beside.now.entries) name.now (view value.now) (λ next. read_at next (view value.now))) }
+    ensures read { Returns member_view result (read_named (type_ref here.entry) (members_view beside.now.entries) name.now (view value.now) (λ next. read_at next (view value.now))) }
     ensures named { IfOk result (λ m. IsNamed m name.now) }
 {
     if name == "." {
@@ -102,9 +102,9 @@ fn read_member(
 fn read_members(
     members: &Map<String, Value>,
     alloc: Global,
-    here: Spot<'_>,
+    here: TypeRef<'_>,
 ) -> Result<PathMap, FieldsV1Fault>
-    ensures { Gives content result (read_members (spot here.entry) (members_view members.now.entries) (members_view members.now.entries)) }
+    ensures { Returns content result (read_members (type_ref here.entry) (members_view members.now.entries) (members_view members.now.entries)) }
 {
     let mut map = PathMap::empty(alloc);
     for (name, value) in members.iter() {
@@ -117,8 +117,8 @@ fn read_members(
 }
 
 #[cycle(read)]
-fn read_at(value: &Value, alloc: Global, here: Spot<'_>) -> Result<PathMap, FieldsV1Fault>
-    ensures { Gives content result (read_at (spot here.entry) (view value.now)) }
+fn read_at(value: &Value, alloc: Global, here: TypeRef<'_>) -> Result<PathMap, FieldsV1Fault>
+    ensures { Returns content result (read_at (type_ref here.entry) (view value.now)) }
 {
     let Value::Object(members) = value else {
         return Err(FieldsV1Fault::NotAnObject);
@@ -139,8 +139,8 @@ pub(crate) fn read_paths(
     schema: &Schema,
     value: &Value,
 ) -> Result<PathMap, FieldsV1Fault>
-    ensures { Gives (λ m. dom (content m)) result (read_fields_v1 (shape schema.now) (view value.now)) }
+    ensures { Returns (λ m. dom (content m)) result (read_fields_v1 (shape schema.now) (view value.now)) }
 {
     let members = object_of(value)?;
-    read_members(members, alloc, Spot::Value(schema))
+    read_members(members, alloc, TypeRef::Value(schema))
 }

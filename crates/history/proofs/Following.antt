@@ -91,22 +91,22 @@ next_seen wanted cs top p x xs rise h is =
           ∙ ap (λ s. seen_among wanted s (later x.object.revision (later p cs))) (sym state) ∙ first.others;
     }
 
--- a front of what is seen after p leads to where a watch then stands, and the others are what is seen after that
-pub record IsFrontSeen (wanted : Selection) (cs : List Change) (top p n : ℕ) (xs : List SeenChange) : Type 0 where
-  pub leads : put_all_seen (seen_at wanted cs p) (take n xs) ≡ seen_at wanted cs (reached p (take n xs))
+-- a prefix of what is seen after p leads to where a watch then stands, and the others are what is seen after that
+pub record IsPrefixSeen (wanted : Selection) (cs : List Change) (top p n : ℕ) (xs : List SeenChange) : Type 0 where
+  pub reaches : put_all_seen (seen_at wanted cs p) (take n xs) ≡ seen_at wanted cs (reached p (take n xs))
   pub left : seen_changes wanted cs (reached p (take n xs)) top ≡ drop n xs
   pub low : p ≤ reached p (take n xs)
   pub high : reached p (take n xs) ≤ top
 
-pub front_seen : (wanted : Selection) (cs : List Change) (top n p : ℕ) (xs : List SeenChange) → IsRising 0 cs top → p ≤ top → seen_changes wanted cs p top ≡ xs → IsFrontSeen wanted cs top p n xs
-front_seen wanted cs top zero p xs rise h is = record { leads = refl; left = is; low = omega arith; high = h }
-front_seen wanted cs top (suc n) p [] rise h is = record { leads = refl; left = is; low = omega arith; high = h }
-front_seen wanted cs top (suc n) p (x ∷ xs) rise h is =
+pub prefix_seen : (wanted : Selection) (cs : List Change) (top n p : ℕ) (xs : List SeenChange) → IsRising 0 cs top → p ≤ top → seen_changes wanted cs p top ≡ xs → IsPrefixSeen wanted cs top p n xs
+prefix_seen wanted cs top zero p xs rise h is = record { reaches = refl; left = is; low = omega arith; high = h }
+prefix_seen wanted cs top (suc n) p [] rise h is = record { reaches = refl; left = is; low = omega arith; high = h }
+prefix_seen wanted cs top (suc n) p (x ∷ xs) rise h is =
     let next : IsNextSeen wanted cs top p x xs = next_seen wanted cs top p x xs rise h is in
-    let others : IsFrontSeen wanted cs top x.object.revision n xs = front_seen wanted cs top n x.object.revision xs rise next.within next.rest in
+    let others : IsPrefixSeen wanted cs top x.object.revision n xs = prefix_seen wanted cs top n x.object.revision xs rise next.within next.rest in
     let a : p < x.object.revision = next.above in
     let b : x.object.revision ≤ reached x.object.revision (take n xs) = others.low in
-    record { leads = ap (λ s. put_all_seen s (take n xs)) next.applies ∙ others.leads; left = others.left; low = omega arith; high = others.high }
+    record { reaches = ap (λ s. put_all_seen s (take n xs)) next.applies ∙ others.reaches; left = others.left; low = omega arith; high = others.high }
 
 pub none_seen : (wanted : Selection) (cs : List Change) (top r q : ℕ) → IsRising 0 cs top → r ≤ q → seen_changes wanted cs r q ≡ [] → seen_at wanted cs q ≡ seen_at wanted cs r
 none_seen wanted cs top r q rise h none = sym (between wanted cs top r q rise h) ∙ ap (put_all_seen (seen_at wanted cs r)) none

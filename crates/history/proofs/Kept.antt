@@ -6,7 +6,7 @@ use Rattle.std.specs.Prelude.{nat_le, nat_lt}
 use Rattle.history.specs.History.{Key, Change, History, IsHistory, is_same_key, IsRising, fresh, written, last_revision}
 use Rattle.history.specs.Kept.{kept, pruned, IsPruned}
 use Rattle.history.proofs.Revisions.{rising-push, rising-filter}
-use Rattle.history.proofs.Standing.{has_later, kept_by, kept_is}
+use Rattle.history.proofs.CurrentObjects.{has_later, kept_by, kept_is}
 use Rattle.history.proofs.Views.{none_later}
 
 -- ---- a write

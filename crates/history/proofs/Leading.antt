@@ -7,38 +7,38 @@ use Rattle.std.specs.FinMap.{is_sorted}
 use Rattle.std.specs.FinMap.Entries.{below_all}
 use Rattle.history.specs.History.{Key, Objects, key_cmp}
 use Rattle.history.specs.Page.{is_in_namespace, is_past, is_within, listed, page}
-use Rattle.history.specs.Seen.{IsLimit, Selection, seen_page, selected, IsFront, last_key, past}
+use Rattle.history.specs.Seen.{IsLimit, Selection, seen_page, selected, IsPrefix, last_key, past}
 use Rattle.history.proofs.Keys.{key_cmp_total}
 use Rattle.history.proofs.Lists.{filter_both, filter_like}
 use Rattle.history.proofs.Selecting.{Entries, both, fst, snd, is_sorted-filter}
-use Rattle.history.proofs.Paging.{all_pages, first_page, less_is, next_page, past-front, past_of_kind}
+use Rattle.history.proofs.Paging.{all_pages, first_page, less_is, next_page, past-prefix, past_of_kind}
 
 -- ---- lists
 
-pub first : (wanted : Selection) (limit : Option ℕ) (s : Objects) → IsLimit limit → IsFront (fin.entries (selected wanted s)) (seen_page wanted None limit s).found (seen_page wanted None limit s).next
+pub first : (wanted : Selection) (limit : Option ℕ) (s : Objects) → IsLimit limit → IsPrefix (fin.entries (selected wanted s)) (seen_page wanted None limit s).found (seen_page wanted None limit s).next
 first wanted None s h = record { rest = []; is = sym (append-nil (fin.entries (selected wanted s))); left = refl }
 first wanted (Some limit) s h = first_page limit (selected wanted s) h
 
-pub next : (wanted : Selection) (limit : Option ℕ) (s : Objects) (front : Entries) (k : Key) → IsLimit limit → IsFront (fin.entries (selected wanted s)) front (Some k)
-    → IsFront (fin.entries (selected wanted s)) (front ++ (seen_page wanted (Some k) limit s).found) (seen_page wanted (Some k) limit s).next
-next wanted None s front k h is =
+pub next : (wanted : Selection) (limit : Option ℕ) (s : Objects) (prefix : Entries) (k : Key) → IsLimit limit → IsPrefix (fin.entries (selected wanted s)) prefix (Some k)
+    → IsPrefix (fin.entries (selected wanted s)) (prefix ++ (seen_page wanted (Some k) limit s).found) (seen_page wanted (Some k) limit s).next
+next wanted None s prefix k h is =
     let all : Entries = fin.entries (selected wanted s) in
-    record { rest = []; is = is.is ∙ ap (λ xs. front ++ xs) (sym is.left) ∙ sym (append-nil (front ++ past k all)); left = refl }
-next wanted (Some limit) s front k h is = next_page limit (selected wanted s) front k h is
+    record { rest = []; is = is.is ∙ ap (λ xs. prefix ++ xs) (sym is.left) ∙ sym (append-nil (prefix ++ past k all)); left = refl }
+next wanted (Some limit) s prefix k h is = next_page limit (selected wanted s) prefix k h is
 
-pub whole : (wanted : Selection) (s : Objects) (all : Entries) → IsFront (fin.entries (selected wanted s)) all None → all ≡ fin.entries (selected wanted s)
+pub whole : (wanted : Selection) (s : Objects) (all : Entries) → IsPrefix (fin.entries (selected wanted s)) all None → all ≡ fin.entries (selected wanted s)
 whole wanted s all is = sym (all_pages (selected wanted s) all is)
 
-below-front : (x : Key) (front rest : Entries) → T (below_all key_cmp x (front ++ rest)) → T (below_all key_cmp x front)
-below-front x [] rest h = tt
-below-front x (e ∷ front) rest h = both _ _ (fst _ _ h) (below-front x front rest (snd _ _ h))
+below-prefix : (x : Key) (prefix rest : Entries) → T (below_all key_cmp x (prefix ++ rest)) → T (below_all key_cmp x prefix)
+below-prefix x [] rest h = tt
+below-prefix x (e ∷ prefix) rest h = both _ _ (fst _ _ h) (below-prefix x prefix rest (snd _ _ h))
 
-sorted-front : (front rest : Entries) → T (is_sorted key_cmp (front ++ rest)) → T (is_sorted key_cmp front)
-sorted-front [] rest h = tt
-sorted-front (e ∷ front) rest h = both _ _ (below-front e.0 front rest (fst _ _ h)) (sorted-front front rest (snd _ _ h))
+sorted-prefix : (prefix rest : Entries) → T (is_sorted key_cmp (prefix ++ rest)) → T (is_sorted key_cmp prefix)
+sorted-prefix [] rest h = tt
+sorted-prefix (e ∷ prefix) rest h = both _ _ (below-prefix e.0 prefix rest (fst _ _ h)) (sorted-prefix prefix rest (snd _ _ h))
 
-pub rising : (wanted : Selection) (s : Objects) (front : Entries) (next : Option Key) → IsFront (fin.entries (selected wanted s)) front next → T (is_sorted key_cmp front)
-rising wanted s front next is = sorted-front front is.rest (subst (λ es. T (is_sorted key_cmp es)) is.is (fin.entries_sorted (selected wanted s)))
+pub rising : (wanted : Selection) (s : Objects) (prefix : Entries) (next : Option Key) → IsPrefix (fin.entries (selected wanted s)) prefix next → T (is_sorted key_cmp prefix)
+rising wanted s prefix next is = sorted-prefix prefix is.rest (subst (λ es. T (is_sorted key_cmp es)) is.is (fin.entries_sorted (selected wanted s)))
 
 -- ---- rows
 
@@ -121,6 +121,6 @@ more kind ns after max s k is =
     let rows : Entries = listed kind ns after s in
     let whole : rows ≡ take max rows ++ drop max rows = sym (take-append-drop max rows) in
     let sorted : T (is_sorted key_cmp rows) = is_sorted-filter _ (fin.entries s) (fin.entries_sorted s) in
-    let rest : past k rows ≡ drop max rows = ap (past k) whole ∙ past-front k (take max rows) (drop max rows) (subst (λ l. T (is_sorted key_cmp l)) whole sorted) is in
+    let rest : past k rows ≡ drop max rows = ap (past k) whole ∙ past-prefix k (take max rows) (drop max rows) (subst (λ l. T (is_sorted key_cmp l)) whole sorted) is in
     let there : passes k ≡ true = pass-last passes k (take max rows) (pass-take passes max rows (pass-filter passes (fin.entries s))) is in
     whole ∙ ap (λ l. take max rows ++ l) (sym rest ∙ past_listed kind ns after k there s)

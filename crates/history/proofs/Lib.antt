@@ -10,7 +10,7 @@ pub mod Paging
 pub mod Revisions
 pub mod Seen
 pub mod Selecting
-pub mod Standing
+pub mod CurrentObjects
 pub mod Views
 pub mod Wholes
 pub mod Writes

@@ -9,7 +9,7 @@ use Rattle.std.specs.FinMap.{is_sorted}
 use Rattle.std.specs.FinMap.Entries.{below_all}
 use Rattle.history.specs.History.{Key, Object, Objects, key_cmp, text_cmp}
 use Rattle.history.specs.Page.{is_in_namespace, is_past, is_within, listed}
-use Rattle.history.specs.Seen.{Selection, selected, IsFront, LeftBy, last_key, next_of, past}
+use Rattle.history.specs.Seen.{Selection, selected, IsPrefix, LeftBy, last_key, next_of, past}
 use Rattle.history.proofs.Keys.{key_cmp_total}
 use Rattle.history.proofs.Lists.{filter_both, filter_like, filter_turned}
 use Rattle.history.proofs.Selecting.{Entries, fst, snd, entries-selected}
@@ -24,8 +24,8 @@ past-below x [] h = refl
 past-below x (e ∷ es) h =
     ap (λ r. cond (is_lt r) (e ∷ past x es) (past x es)) (less_is (key_cmp x e.0) (fst _ _ h)) ∙ ap (λ ds. e ∷ ds) (past-below x es (snd _ _ h))
 
--- what is below all of a front is below its last key
-last_above : (x k : Key) (front rest : Entries) → last_key front ≡ Some k → T (below_all key_cmp x (front ++ rest)) → T (is_lt (key_cmp x k))
+-- what is below all of a prefix is below its last key
+last_above : (x k : Key) (prefix rest : Entries) → last_key prefix ≡ Some k → T (below_all key_cmp x (prefix ++ rest)) → T (is_lt (key_cmp x k))
 last_above x k [] rest is h = absurd cc
 last_above x k (e ∷ []) rest is h = let same : e.0 ≡ k = cc in subst (λ q. T (is_lt (key_cmp x q))) same (fst _ _ h)
 last_above x k (e ∷ f ∷ es) rest is h = last_above x k (f ∷ es) rest is (snd _ _ h)
@@ -36,13 +36,13 @@ drops k e es is = ap (λ r. cond (is_lt r) (e ∷ past k es) (past k es)) is
 drops_above : (k : Key) (e : Key × Object) (es : Entries) → T (is_lt (key_cmp e.0 k)) → past k (e ∷ es) ≡ past k es
 drops_above k e es h = ap (λ r. cond (is_lt r) (e ∷ past k es) (past k es)) (key_cmp_total.antisymm k e.0 ∙ ap ordering_reverse (less_is (key_cmp e.0 k) h))
 
-pub past-front : (k : Key) (front rest : Entries) → T (is_sorted key_cmp (front ++ rest)) → last_key front ≡ Some k → past k (front ++ rest) ≡ rest
-past-front k [] rest sorted is = absurd cc
-past-front k (e ∷ []) rest sorted is =
+pub past-prefix : (k : Key) (prefix rest : Entries) → T (is_sorted key_cmp (prefix ++ rest)) → last_key prefix ≡ Some k → past k (prefix ++ rest) ≡ rest
+past-prefix k [] rest sorted is = absurd cc
+past-prefix k (e ∷ []) rest sorted is =
     let same : e.0 ≡ k = cc in
     drops k e rest (ap (key_cmp k) same ∙ tied_itself key_cmp_total k) ∙ past-below k rest (subst (λ q. T (below_all key_cmp q rest)) same (fst _ _ sorted))
-past-front k (e ∷ f ∷ es) rest sorted is =
-    drops_above k e (f ∷ es ++ rest) (last_above e.0 k (f ∷ es) rest is (fst _ _ sorted)) ∙ past-front k (f ∷ es) rest (snd _ _ sorted) is
+past-prefix k (e ∷ f ∷ es) rest sorted is =
+    drops_above k e (f ∷ es ++ rest) (last_above e.0 k (f ∷ es) rest is (fst _ _ sorted)) ∙ past-prefix k (f ∷ es) rest (snd _ _ sorted) is
 
 last_key-append : (k : Key) (xs ys : Entries) → last_key ys ≡ Some k → last_key (xs ++ ys) ≡ Some k
 last_key-append k [] ys is = is
@@ -60,33 +60,33 @@ taken_last (suc n) [] h lt = absurd (omega arith)
 taken_last (suc n) (x ∷ left) h lt = has_last x (take n left)
 
 -- a page of what is left, put behind the pages before it
-page_front : (size : ℕ) (all aside left : Entries) → 0 < size → T (is_sorted key_cmp all) → all ≡ aside ++ left → IsFront all (aside ++ take size left) (next_of size left)
-page_front size all aside left h sorted is = go (nat_lt size (length left)) refl
+page_prefix : (size : ℕ) (all aside left : Entries) → 0 < size → T (is_sorted key_cmp all) → all ≡ aside ++ left → IsPrefix all (aside ++ take size left) (next_of size left)
+page_prefix size all aside left h sorted is = go (nat_lt size (length left)) refl
   where
     whole : all ≡ (aside ++ take size left) ++ drop size left
     whole = is ∙ ap (λ xs. aside ++ xs) (sym (take-append-drop size left)) ∙ sym (append_assoc aside (take size left) (drop size left))
 
-    go : (b : Bool) → nat_lt size (length left) ≡ b → IsFront all (aside ++ take size left) (cond b (last_key (take size left)) None)
+    go : (b : Bool) → nat_lt size (length left) ≡ b → IsPrefix all (aside ++ take size left) (cond b (last_key (take size left)) None)
     go false t = record { rest = drop size left; is = whole; left = drop_of_length-le left (ltb-false _ _ t) }
     go true t =
         let last : (k : Key) × (last_key (take size left) ≡ Some k) = taken_last size left h (ltb-true _ _ t) in
         let past_it : past last.0 all ≡ drop size left =
-        ap (past last.0) whole ∙ past-front last.0 (aside ++ take size left) (drop size left) (subst (λ xs. T (is_sorted key_cmp xs)) whole sorted) (last_key-append last.0 aside (take size left) last.1) in
+        ap (past last.0) whole ∙ past-prefix last.0 (aside ++ take size left) (drop size left) (subst (λ xs. T (is_sorted key_cmp xs)) whole sorted) (last_key-append last.0 aside (take size left) last.1) in
         record { rest = drop size left; is = whole; left = subst (λ o. LeftBy all o (drop size left)) (sym last.1) past_it }
 
-pub first_page : (size : ℕ) (s : Objects) → 0 < size → IsFront (fin.entries s) (take size (fin.entries s)) (next_of size (fin.entries s))
-first_page size s h = page_front size (fin.entries s) [] (fin.entries s) h (fin.entries_sorted s) refl
+pub first_page : (size : ℕ) (s : Objects) → 0 < size → IsPrefix (fin.entries s) (take size (fin.entries s)) (next_of size (fin.entries s))
+first_page size s h = page_prefix size (fin.entries s) [] (fin.entries s) h (fin.entries_sorted s) refl
 
-pub next_page : (size : ℕ) (s : Objects) (front : Entries) (k : Key) → 0 < size → IsFront (fin.entries s) front (Some k)
-    → IsFront (fin.entries s) (front ++ take size (past k (fin.entries s))) (next_of size (past k (fin.entries s)))
-next_page size s front k h is = page_front size (fin.entries s) front (past k (fin.entries s)) h (fin.entries_sorted s) (is.is ∙ ap (λ xs. front ++ xs) (sym is.left))
+pub next_page : (size : ℕ) (s : Objects) (prefix : Entries) (k : Key) → 0 < size → IsPrefix (fin.entries s) prefix (Some k)
+    → IsPrefix (fin.entries s) (prefix ++ take size (past k (fin.entries s))) (next_of size (past k (fin.entries s)))
+next_page size s prefix k h is = page_prefix size (fin.entries s) prefix (past k (fin.entries s)) h (fin.entries_sorted s) (is.is ∙ ap (λ xs. prefix ++ xs) (sym is.left))
 
-pub all_pages : (s : Objects) (all : Entries) → IsFront (fin.entries s) all None → fin.entries s ≡ all
-all_pages s all front = front.is ∙ ap (λ xs. all ++ xs) front.left ∙ append-nil all
+pub all_pages : (s : Objects) (all : Entries) → IsPrefix (fin.entries s) all None → fin.entries s ≡ all
+all_pages s all prefix = prefix.is ∙ ap (λ xs. all ++ xs) prefix.left ∙ append-nil all
 
-pub whole_list : (s : Objects) (all : Entries) → IsFront (fin.entries s) all None → fin.from_sorted all ≡ s
-whole_list s all front =
-    let same : fin.entries s ≡ all = all_pages s all front in
+pub whole_list : (s : Objects) (all : Entries) → IsPrefix (fin.entries s) all None → fin.from_sorted all ≡ s
+whole_list s all prefix =
+    let same : fin.entries s ≡ all = all_pages s all prefix in
     fin.same_entries_map _ _ (fin.entries-from_sorted key_cmp all (subst (λ xs. T (is_sorted key_cmp xs)) same (fin.entries_sorted s)) ∙ sym same)
 
 -- ---- the rows of a call on the store

@@ -9,7 +9,7 @@ use Rattle.history.specs.Kept.{kept, pruned}
 use Rattle.history.specs.View.{IsView, view, state_in}
 use Rattle.history.proofs.Keys.{same, tied, get-put_or_remove}
 use Rattle.history.proofs.Revisions.{up_to-keeps, up_to-split, later-drops, rising-later, changed-append}
-use Rattle.history.proofs.Standing.{has_later, kept_by, kept_is}
+use Rattle.history.proofs.CurrentObjects.{has_later, kept_by, kept_is}
 
 -- the last word of these changes on a key
 abbrev pub last_of : Key → Option Object → List Change → Option Object

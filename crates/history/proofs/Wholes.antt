@@ -1,7 +1,7 @@
 -- A history of which nothing is forgotten stays one.
 use Rattle.std.proofs.Common.{◌≡◌, ℕ, suc, ◌≤◌, true, List, [], ◌∷◌, ◌++◌, refl, sym, ap, subst, ◌∙◌, Option, None, arith}
 use Rattle.std.specs.FinMap as fin
-use Rattle.history.specs.History.{Key, Objects, Change, History, IsHistory, IsRising, changed, compacted_to, fresh, last_revision, left_by, put_or_remove, standing, written}
+use Rattle.history.specs.History.{Key, Objects, Change, History, IsHistory, IsRising, changed, compacted_to, fresh, last_revision, left_by, put_or_remove, current_objects, written}
 use Rattle.history.specs.Whole.{AreThere, IsGapless, IsWhole}
 use Rattle.history.proofs.Revisions.{rising_from, up_to-all}
 
@@ -25,17 +25,17 @@ there-push : (s : Objects) (cs : List Change) (c : Change) → (c.body ≡ None 
 there-push s [] c last is = (last, tt)
 there-push s (d ∷ cs) c last is = (is.0, there-push (put_or_remove s d.key (left_by d)) cs c last is.1)
 
-standing_is_all : (h : History) → IsHistory h → standing h ≡ changed fin.empty h.changes
-standing_is_all h is = ap (changed fin.empty) (up_to-all 0 h.current h.current h.changes (omega arith) is.rising)
+current_objects_is_all : (h : History) → IsHistory h → current_objects h ≡ changed fin.empty h.changes
+current_objects_is_all h is = ap (changed fin.empty) (up_to-all 0 h.current h.current h.changes (omega arith) is.rising)
 
 pub whole_writes : (first : ℕ) (h : History) (k : Key) (body : Option (List ℕ)) → IsWhole first h → suc h.current ≤ last_revision
-    → (body ≡ None → fin.contains_key (standing h) k ≡ true) → IsWhole first (written h k body)
+    → (body ≡ None → fin.contains_key (current_objects h) k ≡ true) → IsWhole first (written h k body)
 whole_writes first h k body is fits last =
     let low : h.compacted ≤ h.current = is.low in
     record {
       begun = is.begun;
       gapless = gapless-push first h.current h.changes _ refl is.gapless;
-      there = there-push fin.empty h.changes _ (λ none. ap (λ s. fin.contains_key s k) (sym (standing_is_all h (whole_is first h is))) ∙ last none) is.there;
+      there = there-push fin.empty h.changes _ (λ none. ap (λ s. fin.contains_key s k) (sym (current_objects_is_all h (whole_is first h is))) ∙ last none) is.there;
       after = is.after;
       low = omega arith;
       high = fits;

@@ -1,7 +1,7 @@
 -- What several writes make of a history, one after the other.
 use Rattle.std.proofs.Common.{◌≡◌, ℕ, suc, ◌+◌, ◌≤◌, List, [], ◌∷◌, ◌++◌, length, refl, sym, ap, subst, ◌∙◌, Option, arith, append_assoc, append-nil}
 use Rattle.std.specs.FinMap as fin
-use Rattle.history.specs.History.{Key, Objects, Change, History, IsRising, changed, last_revision, left_by, put_or_remove, standing, written}
+use Rattle.history.specs.History.{Key, Objects, Change, History, IsRising, changed, last_revision, left_by, put_or_remove, current_objects, written}
 use Rattle.history.specs.Kept.{IsPruned, pruned}
 use Rattle.history.specs.View.{view}
 use Rattle.history.specs.Whole.{AreThere, IsWhole}
@@ -57,22 +57,22 @@ there_append s [] ds all more = more
 there_append s (c ∷ cs) ds all more = (all.0, there_append (put_or_remove s c.key (left_by c)) cs ds all.1 more)
 
 -- each deletion among all the changes is of an object that is there
-pub there_all : (h : History) (ws : Writes) → IsRising 0 h.changes h.current → AreThere fin.empty h.changes → AreThere (standing h) (changes_by h.current ws) → AreThere fin.empty (written_all h ws).changes
+pub there_all : (h : History) (ws : Writes) → IsRising 0 h.changes h.current → AreThere fin.empty h.changes → AreThere (current_objects h) (changes_by h.current ws) → AreThere fin.empty (written_all h ws).changes
 there_all h ws rise all more =
     subst (AreThere fin.empty) (sym (changes_all h ws))
     (there_append fin.empty h.changes (changes_by h.current ws) all (subst (λ s. AreThere s (changes_by h.current ws)) (ap (changed fin.empty) (up_to-all 0 h.current h.current h.changes (omega arith) rise)) more))
 
 -- what stands once one is written
-pub standing_written : (h : History) (k : Key) (body : Option (List ℕ)) → IsRising 0 h.changes h.current
-    → standing (written h k body) ≡ put_or_remove (standing h) k (left_by (record { revision = suc h.current; key = k; body = body }))
-standing_written h k body rise =
+pub current_objects_written : (h : History) (k : Key) (body : Option (List ℕ)) → IsRising 0 h.changes h.current
+    → current_objects (written h k body) ≡ put_or_remove (current_objects h) k (left_by (record { revision = suc h.current; key = k; body = body }))
+current_objects_written h k body rise =
     let d : Change = record { revision = suc h.current; key = k; body = body } in
     ap (changed fin.empty) (up_to-all 0 (suc h.current) (suc h.current) (h.changes ++ d ∷ []) (omega arith) (rising-push 0 h.current h.changes d refl rise))
     ∙ changed-append fin.empty h.changes (d ∷ [])
     ∙ ap (λ s. put_or_remove s k (left_by d)) (ap (changed fin.empty) (sym (up_to-all 0 h.current h.current h.changes (omega arith) rise)))
 
-pub whole_all : (first : ℕ) (h : History) (ws : Writes) → IsWhole first h → h.current + length ws ≤ last_revision → AreThere (standing h) (changes_by h.current ws) → IsWhole first (written_all h ws)
+pub whole_all : (first : ℕ) (h : History) (ws : Writes) → IsWhole first h → h.current + length ws ≤ last_revision → AreThere (current_objects h) (changes_by h.current ws) → IsWhole first (written_all h ws)
 whole_all first h [] is fits there = is
 whole_all first h (w ∷ ws) is fits there =
     whole_all first (written h w.0 w.1) ws (whole_writes first h w.0 w.1 is (omega arith) there.0) (omega arith)
-    (subst (λ s. AreThere s (changes_by (suc h.current) ws)) (sym (standing_written h w.0 w.1 (whole_is first h is).rising)) there.1)
+    (subst (λ s. AreThere s (changes_by (suc h.current) ws)) (sym (current_objects_written h w.0 w.1 (whole_is first h is).rising)) there.1)

@@ -97,5 +97,5 @@ abbrev pub compacted_to : ℕ → History → History
 compacted_to c h = record h { compacted = c }
 
 -- the objects that stand now
-abbrev pub standing : History → Objects
-standing h = state_at h.changes h.current
+abbrev pub current_objects : History → Objects
+current_objects h = state_at h.changes h.current

@@ -8,12 +8,12 @@ abbrev pub replaces : ℕ → Change → Change → Bool
 replaces c old new = is_same_key old.key new.key && (nat_lt old.revision new.revision && nat_le new.revision c)
 
 -- among these changes it is its key's last up to r, and no deletion
-abbrev pub stands : ℕ → List Change → Change → Bool
-stands r cs it = nat_le it.revision r && (is_some it.body && not (list_any (replaces r it) cs))
+abbrev pub is_last_up_to : ℕ → List Change → Change → Bool
+is_last_up_to r cs it = nat_le it.revision r && (is_some it.body && not (list_any (replaces r it) cs))
 
 -- the changes after c and, of each key, the last up to c unless it is a deletion
 abbrev pub kept : ℕ → List Change → List Change
-kept c cs = filter (λ it. nat_lt c it.revision || stands c cs it) cs
+kept c cs = filter (λ it. nat_lt c it.revision || is_last_up_to c cs it) cs
 
 -- those that are no deletions
 abbrev pub with_body : List Change → List Change

@@ -62,9 +62,9 @@ LeftBy all None rest = rest ≡ []
 LeftBy all (Some k) rest = past k all ≡ rest
 
 -- the entries begin with these, and what is left of them begins after `next`
-pub record IsFront (all front : List (Key × Object)) (next : Option Key) : Type 0 where
+pub record IsPrefix (all prefix : List (Key × Object)) (next : Option Key) : Type 0 where
   pub rest : List (Key × Object)
-  pub is : all ≡ front ++ rest
+  pub is : all ≡ prefix ++ rest
   pub left : LeftBy all next rest
 
 -- ---- the changes that are seen

@@ -3,7 +3,7 @@
 
 ghost use Rattle.std.specs.Prelude.{◌≡◌, ℕ, suc, ◌+◌, ◌≤◌, true, List, ◌++◌, length, Option, None};
 ghost use Rattle.std.specs.FinMap as fin;
-ghost use Rattle.history.specs.History.{History, IsHistory, Key, compacted_to, fresh, last_revision, later, standing, state_at, written};
+ghost use Rattle.history.specs.History.{History, IsHistory, Key, compacted_to, fresh, last_revision, later, current_objects, state_at, written};
 ghost use Rattle.history.specs.Kept.{IsPruned, pruned};
 ghost use Rattle.history.specs.View.{IsView, compacted_in, state_in, view, written_in};
 ghost use Rattle.history.specs.Whole.{AreThere, IsWhole};
@@ -38,7 +38,7 @@ pub fn histories_stay_whole()
     ensures rising { (first : ℕ) (h : History) → IsWhole first h → IsHistory h }
     ensures begins { (first : ℕ) → 1 ≤ first → first ≤ last_revision → IsWhole first (fresh first) }
     ensures writes { (first : ℕ) (h : History) (k : Key) (body : Option (List ℕ)) → IsWhole first h → suc h.current ≤ last_revision
-        → (body ≡ None → fin.contains_key (standing h) k ≡ true) → IsWhole first (written h k body) }
+        → (body ≡ None → fin.contains_key (current_objects h) k ≡ true) → IsWhole first (written h k body) }
     ensures compacts { (first : ℕ) (h : History) (c : ℕ) → IsWhole first h → h.compacted ≤ c → c ≤ h.current → IsWhole first (compacted_to c h) }
 {}
 
@@ -50,5 +50,5 @@ pub fn several_writes_at_once()
     ensures seen { (h : History) (ws : List (Key × Option (List ℕ))) → IsHistory h → view (written_all h ws) ≡ written_all_in (view h) ws }
     ensures kept { (h : History) (ws : List (Key × Option (List ℕ))) → IsHistory h → pruned h.compacted (written_all h ws) ≡ written_all (pruned h.compacted h) ws }
     ensures whole { (first : ℕ) (h : History) (ws : List (Key × Option (List ℕ))) → IsWhole first h → h.current + length ws ≤ last_revision
-        → AreThere (standing h) (changes_by h.current ws) → IsWhole first (written_all h ws) }
+        → AreThere (current_objects h) (changes_by h.current ws) → IsWhole first (written_all h ws) }
 {}

@@ -11,14 +11,14 @@ ghost use Rattle.history.specs.View.{IsView, View, state_in, view};
 
 /// What is seen of changes, put over the selected objects before them, gives the selected objects after them. So whoever
 /// has the list of a revision and puts what is seen after it has the list of each later revision; where nothing is
-/// seen the list stays. One step of it is the next seen change, and so is any front of what is seen: the others are
-/// what is seen after the front's last revision. What a watch without a version begins with makes the list itself.
+/// seen the list stays. One step of it is the next seen change, and so is any prefix of what is seen: the others are
+/// what is seen after the prefix's last revision. What a watch without a version begins with makes the list itself.
 pub fn seen_changes_lead_on()
     ensures changes { (wanted : Selection) (s : Objects) (cs : List Change) → put_all_seen (selected wanted s) (seen_among wanted s cs) ≡ selected wanted (changed s cs) }
     ensures between { (wanted : Selection) (cs : List Change) (top r q : ℕ) → IsRising 0 cs top → r ≤ q → put_all_seen (seen_at wanted cs r) (seen_changes wanted cs r q) ≡ seen_at wanted cs q }
     ensures stays { (wanted : Selection) (cs : List Change) (top r q : ℕ) → IsRising 0 cs top → r ≤ q → seen_changes wanted cs r q ≡ [] → seen_at wanted cs q ≡ seen_at wanted cs r }
     ensures next { (wanted : Selection) (cs : List Change) (top p : ℕ) (x : SeenChange) (others : List SeenChange) → IsRising 0 cs top → p ≤ top → seen_changes wanted cs p top ≡ x ∷ others → IsNextSeen wanted cs top p x others }
-    ensures front { (wanted : Selection) (cs : List Change) (top p n : ℕ) → IsRising 0 cs top → p ≤ top
+    ensures prefix { (wanted : Selection) (cs : List Change) (top p n : ℕ) → IsRising 0 cs top → p ≤ top
         → put_all_seen (seen_at wanted cs p) (take n (seen_changes wanted cs p top)) ≡ seen_at wanted cs (reached p (take n (seen_changes wanted cs p top))) }
     ensures left { (wanted : Selection) (cs : List Change) (top p n : ℕ) → IsRising 0 cs top → p ≤ top
         → seen_changes wanted cs (reached p (take n (seen_changes wanted cs p top))) top ≡ drop n (seen_changes wanted cs p top) }

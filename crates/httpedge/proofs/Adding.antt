@@ -16,9 +16,9 @@ use Rattle.verbs.specs.Retyping.{RetypeRefusal, retyped, retyping, retyping_writ
 use Rattle.verbs.specs.Step.{planned}
 use Rattle.requests.specs.Asks.{CallDecision}
 use Rattle.requests.specs.Decision.{undecided, refused, accepted}
-use Rattle.httpedge.specs.Connections.{Connection, Connections, Standing, waiting, watching, ended, gone}
-use Rattle.httpedge.specs.Runs.{Follows, Happening, HasGrown, Runs, happens, lasting, starves, takes}
-use Rattle.httpedge.specs.Steps.{Event, Refusal, State, opens, comes, goes, pumps, ticks, compacts, retypes, by_connection, carried_out, compaction_refused, machine_after, received_by, refusal, starved, unless_refused, with_connections, with_machine, with_types}
+use Rattle.httpedge.specs.Connections.{Connection, Connections, Phase, waiting, watching, ended, gone}
+use Rattle.httpedge.specs.Runs.{Follows, Action, HasGrown, Runs, happens, lasting, runs_out_of_memory, takes}
+use Rattle.httpedge.specs.Steps.{Event, Refusal, State, opens, comes, goes, pumps, ticks, compacts, retypes, by_connection, applied_event, compaction_refused, machine_after, received_by, refusal, out_of_memory, unless_refused, with_connections, with_machine, with_types}
 use Rattle.httpedge.proofs.OtherTypes.{is_lawful, types_last}
 
 -- ---- changes that are added
@@ -55,16 +55,16 @@ after_grown s all (Some c) = record {
   compacted = not_less s.machine.compacted;
 }
 
-made_grown : (s : State) (all : Connections) (asked : CallDecision) → HasGrown s (with_connections (with_machine s (machine_after s.types s.machine asked)) all)
+made_grown : (s : State) (all : Connections) (decision : CallDecision) → HasGrown s (with_connections (with_machine s (machine_after s.types s.machine decision)) all)
 made_grown s all undecided = still s _ refl refl
 made_grown s all (refused d) = still s _ refl refl
 made_grown s all (accepted call) = after_grown s all (planned s.types s.machine call).change
 
-received_grown : (s : State) (id : ℕ) (c : Connection) (st : Standing) (bytes : List ℕ) (asked : CallDecision) → HasGrown s (received_by s id c st bytes asked)
-received_grown s id c (waiting front) bytes asked = made_grown s _ asked
-received_grown s id c (watching w) bytes asked = still s s refl refl
-received_grown s id c ended bytes asked = still s s refl refl
-received_grown s id c (gone had_ended) bytes asked = still s s refl refl
+received_grown : (s : State) (id : ℕ) (c : Connection) (st : Phase) (bytes : List ℕ) (decision : CallDecision) → HasGrown s (received_by s id c st bytes decision)
+received_grown s id c (waiting prefix) bytes decision = made_grown s _ decision
+received_grown s id c (watching w) bytes decision = still s s refl refl
+received_grown s id c ended bytes decision = still s s refl refl
+received_grown s id c (gone had_ended) bytes decision = still s s refl refl
 
 by_grown : (s : State) (o : Option Connection) (f : Connection → State) → ((c : Connection) → HasGrown s (f c)) → HasGrown s (by_connection s o f)
 by_grown s None f grown = still s s refl refl
@@ -75,7 +75,7 @@ first_of : (a b : Bool) → cond {A = Option Refusal} (a && b) None (Some compac
 first_of true b free = refl
 first_of false b free = absurd cc
 
-compacted_grown : (s : State) (c : ℕ) → s.machine.compacted ≤ c → HasGrown s (carried_out s (compacts c) undecided)
+compacted_grown : (s : State) (c : ℕ) → s.machine.compacted ≤ c → HasGrown s (applied_event s (compacts c) undecided)
 compacted_grown s c low = record {
   types = refl;
   changes = ([], sym (append-nil s.machine.changes), refl);
@@ -107,33 +107,33 @@ types_grown : (s : State) (file : Data) (r : Result (List ServedShape) RetypeRef
 types_grown s file (Ok others) is = retyped_grown s others (is_lawful s.types others s.machine file is)
 types_grown s file (Err why) is = still s s refl refl
 
-carried_grown : (s : State) (e : Event) (asked : CallDecision) → refusal s e ≡ None → HasGrown s (carried_out s e asked)
-carried_grown s (opens id) asked free = still s _ refl refl
-carried_grown s (comes id bytes) asked free = by_grown s (fin.get s.connections id) _ (λ c. received_grown s id c c.standing bytes asked)
-carried_grown s (goes id) asked free = by_grown s (fin.get s.connections id) _ (λ c. still s _ refl refl)
-carried_grown s (pumps id max) asked free = by_grown s (fin.get s.connections id) _ (λ c. still s _ refl refl)
-carried_grown s (ticks ms) asked free = still s _ refl refl
-carried_grown s (compacts c) asked free = compacted_grown s c (leb-true s.machine.compacted c (first_of (nat_le s.machine.compacted c) (nat_le c s.machine.current) free))
-carried_grown s (retypes file) asked free = types_grown s file (retyping s.types s.machine file) refl
+carried_grown : (s : State) (e : Event) (decision : CallDecision) → refusal s e ≡ None → HasGrown s (applied_event s e decision)
+carried_grown s (opens id) decision free = still s _ refl refl
+carried_grown s (comes id bytes) decision free = by_grown s (fin.get s.connections id) _ (λ c. received_grown s id c c.phase bytes decision)
+carried_grown s (goes id) decision free = by_grown s (fin.get s.connections id) _ (λ c. still s _ refl refl)
+carried_grown s (pumps id max) decision free = by_grown s (fin.get s.connections id) _ (λ c. still s _ refl refl)
+carried_grown s (ticks ms) decision free = still s _ refl refl
+carried_grown s (compacts c) decision free = compacted_grown s c (leb-true s.machine.compacted c (first_of (nat_le s.machine.compacted c) (nat_le c s.machine.current) free))
+carried_grown s (retypes file) decision free = types_grown s file (retyping s.types s.machine file) refl
 
 unless_grown : (s t : State) (o : Option Refusal) → (o ≡ None → HasGrown s t) → HasGrown s (unless_refused o s t)
 unless_grown s t None grown = grown refl
 unless_grown s t (Some why) grown = still s s refl refl
 
-starved_grown : (s : State) (e : Event) (which : ℕ → Bool) → HasGrown s (starved s e which)
-starved_grown s (opens id) which = still s s refl refl
-starved_grown s (comes id bytes) which = by_grown s (fin.get s.connections id) _ (λ c. still s _ refl refl)
-starved_grown s (goes id) which = still s s refl refl
-starved_grown s (pumps id max) which = by_grown s (fin.get s.connections id) _ (λ c. still s _ refl refl)
-starved_grown s (ticks ms) which = still s _ refl refl
-starved_grown s (compacts c) which = still s s refl refl
-starved_grown s (retypes file) which = still s s refl refl
+out_of_memory_grown : (s : State) (e : Event) (which : ℕ → Bool) → HasGrown s (out_of_memory s e which)
+out_of_memory_grown s (opens id) which = still s s refl refl
+out_of_memory_grown s (comes id bytes) which = by_grown s (fin.get s.connections id) _ (λ c. still s _ refl refl)
+out_of_memory_grown s (goes id) which = still s s refl refl
+out_of_memory_grown s (pumps id max) which = by_grown s (fin.get s.connections id) _ (λ c. still s _ refl refl)
+out_of_memory_grown s (ticks ms) which = still s _ refl refl
+out_of_memory_grown s (compacts c) which = still s s refl refl
+out_of_memory_grown s (retypes file) which = still s s refl refl
 
 -- ---- all that happens
 
-pub follows_grow : (s t : State) (h : Happening) → Follows s h t → HasGrown s t
-follows_grow s t (happens e) (asked, asks, is) = subst (HasGrown s) (sym is) (unless_grown s (carried_out s e asked) (refusal s e) (carried_grown s e asked))
-follows_grow s t (starves e which) (free, memory, is) = subst (HasGrown s) (sym is) (starved_grown s e which)
+pub follows_grow : (s t : State) (h : Action) → Follows s h t → HasGrown s t
+follows_grow s t (happens e) (decision, asks, is) = subst (HasGrown s) (sym is) (unless_grown s (applied_event s e decision) (refusal s e) (carried_grown s e decision))
+follows_grow s t (runs_out_of_memory e which) (free, memory, is) = subst (HasGrown s) (sym is) (out_of_memory_grown s e which)
 follows_grow s t (takes id n) is = subst (HasGrown s) (sym is) (by_grown s (fin.get s.connections id) _ (λ c. still s _ refl refl))
 
 grows_on : (s mid t : State) → HasGrown s mid → HasGrown mid t → HasGrown s t
@@ -155,7 +155,7 @@ grows_on s mid t first second =
       compacted = omega (arith, kept, more);
     }
 
-pub runs_grow : (s t : State) (hs : List Happening) → Runs s hs t → HasGrown s t
+pub runs_grow : (s t : State) (hs : List Action) → Runs s hs t → HasGrown s t
 runs_grow s t [] is = subst (HasGrown s) (sym is) (still s s refl refl)
 runs_grow s t (h ∷ hs) (mid, first, rest) = grows_on s mid t (follows_grow s mid h first) (runs_grow mid t hs rest)
 

@@ -145,17 +145,17 @@ one_if false = 0
 
 abbrev pub opens_of : Option Connection → ℕ
 opens_of None = 0
-opens_of (Some c) = one_if (is_open c.standing)
+opens_of (Some c) = one_if (is_open c.phase)
 
 abbrev pub opens_in : Entries → ℕ
-opens_in es = length (filter (λ c. is_open c.standing) (map (λ e. e.1) es))
+opens_in es = length (filter (λ c. is_open c.phase) (map (λ e. e.1) es))
 
 counted : (c : Connection) (cs : List Connection) (b : Bool) → length (cond b (c ∷ cs) cs) ≡ one_if b + length cs
 counted c cs true = omega arith
 counted c cs false = omega arith
 
-pub opens_first : (e : ℕ × Connection) (es : Entries) → opens_in (e ∷ es) ≡ one_if (is_open e.1.standing) + opens_in es
-opens_first e es = counted e.1 (filter (λ c. is_open c.standing) (map (λ e. e.1) es)) (is_open e.1.standing)
+pub opens_first : (e : ℕ × Connection) (es : Entries) → opens_in (e ∷ es) ≡ one_if (is_open e.1.phase) + opens_in es
+opens_first e es = counted e.1 (filter (λ c. is_open c.phase) (map (λ e. e.1) es)) (is_open e.1.phase)
 
 pub none_below : (id : ℕ) (es : Entries) → entries.below_all nat_cmp id es ≡ true → entries.find nat_cmp id es ≡ None
 none_below id [] below = refl

@@ -39,11 +39,11 @@ abbrev mark_if : Bool → Option ⊤
 mark_if b = cond b (Some tt) None
 
 abbrev open_in : Option Connection → Bool
-open_in o = unwrap_or (option_map (λ c. is_open c.standing) o) false
+open_in o = unwrap_or (option_map (λ c. is_open c.phase) o) false
 
 abbrev open_ids : Entries → List ℕ
 open_ids [] = []
-open_ids (e ∷ es) = cond (is_open e.1.standing) (e.0 ∷ open_ids es) (open_ids es)
+open_ids (e ∷ es) = cond (is_open e.1.phase) (e.0 ∷ open_ids es) (open_ids es)
 
 marked : (q : ℕ) (ks : List ℕ) → entries.find nat_cmp q (marks ks) ≡ mark_if (list_any (is_at (nat_cmp q)) ks)
 marked q [] = refl
@@ -56,7 +56,7 @@ marked q (k ∷ ks) = go (eq_by_cmp nat_cmp q k) (marked q ks)
 -- a first entry whose id is below all others
 marked_first : (q : ℕ) (e : ℕ × Connection) (es : Entries) → entries.below_all nat_cmp e.0 es ≡ true → entries.find nat_cmp q (marks (open_ids es)) ≡ mark_if (open_in (entries.find nat_cmp q es))
     → entries.find nat_cmp q (marks (open_ids (e ∷ es))) ≡ mark_if (open_in (entries.find nat_cmp q (e ∷ es)))
-marked_first q e es below rest = first (is_open e.1.standing) ∙ go (is_open e.1.standing) (eq_by_cmp nat_cmp q e.0) refl (tied_same q e.0)
+marked_first q e es below rest = first (is_open e.1.phase) ∙ go (is_open e.1.phase) (eq_by_cmp nat_cmp q e.0) refl (tied_same q e.0)
   where
     later : q ≡ e.0 → entries.find nat_cmp q es ≡ None
     later same = none_below q es (subst (λ (k : ℕ). entries.below_all nat_cmp k es ≡ true) (sym same) below)
@@ -66,7 +66,7 @@ marked_first q e es below rest = first (is_open e.1.standing) ∙ go (is_open e.
     first true = refl
     first false = refl
 
-    go : (o b : Bool) → is_open e.1.standing ≡ o → (b ≡ true → q ≡ e.0)
+    go : (o b : Bool) → is_open e.1.phase ≡ o → (b ≡ true → q ≡ e.0)
         → cond o (cond b (Some tt) (entries.find nat_cmp q (marks (open_ids es)))) (entries.find nat_cmp q (marks (open_ids es)))
         ≡ mark_if (open_in (cond b (Some e.1) (entries.find nat_cmp q es)))
     go true true is same = sym (ap mark_if is)
@@ -84,7 +84,7 @@ below_open : (k : ℕ) (es : Entries) → entries.below_all nat_cmp k es ≡ tru
 below_open k [] below = refl
 below_open k (e ∷ es) below =
     let parts = and_parts (is_lt (nat_cmp k e.0)) (entries.below_all nat_cmp k es) below in
-    go (is_open e.1.standing) parts.0 (below_open k es parts.1)
+    go (is_open e.1.phase) parts.0 (below_open k es parts.1)
   where
     go : (o : Bool) → is_lt (nat_cmp k e.0) ≡ true → entries.below_all nat_cmp k (marks (open_ids es)) ≡ true
         → entries.below_all nat_cmp k (marks (cond o (e.0 ∷ open_ids es) (open_ids es))) ≡ true
@@ -95,7 +95,7 @@ sorted_open : (es : Entries) → entries.is_sorted nat_cmp es ≡ true → entri
 sorted_open [] sorted = refl
 sorted_open (e ∷ es) sorted =
     let parts = and_parts (entries.below_all nat_cmp e.0 es) (entries.is_sorted nat_cmp es) sorted in
-    go (is_open e.1.standing) (below_open e.0 es parts.0) (sorted_open es parts.1)
+    go (is_open e.1.phase) (below_open e.0 es parts.0) (sorted_open es parts.1)
   where
     go : (o : Bool) → entries.below_all nat_cmp e.0 (marks (open_ids es)) ≡ true → entries.is_sorted nat_cmp (marks (open_ids es)) ≡ true
         → entries.is_sorted nat_cmp (marks (cond o (e.0 ∷ open_ids es) (open_ids es))) ≡ true
@@ -118,7 +118,7 @@ length_marks (k ∷ ks) = let rest : length (marks ks) ≡ length ks = length_ma
 
 length_open : (es : Entries) → length (open_ids es) ≡ opens_in es
 length_open [] = refl
-length_open (e ∷ es) = go (is_open e.1.standing) (length_open es) ∙ sym (opens_first e es)
+length_open (e ∷ es) = go (is_open e.1.phase) (length_open es) ∙ sym (opens_first e es)
   where
     go : (o : Bool) → length (open_ids es) ≡ opens_in es → length (cond o (e.0 ∷ open_ids es) (open_ids es)) ≡ one_if o + opens_in es
     go true rest = omega (arith, rest)

@@ -4,9 +4,9 @@ use Rattle.std.specs.Prelude.{is_some}
 use Rattle.std.specs.FinMap as fin
 use Rattle.httpedge.specs.declared.hub.Hub.{Hub}
 use Rattle.httpedge.specs.Connections.{Connection}
-use Rattle.httpedge.specs.HubSeen.{Handles, Happened, IsIn, Outcome, Tells, done, refused, starved, refusal_in}
-use Rattle.httpedge.specs.Runs.{Follows, Happening, Runs, Steps, happens, starves}
-use Rattle.httpedge.specs.Steps.{Event, Refusal, State, opens, comes, goes, pumps, ticks, compacts, retypes, carried_out, refusal, unknown_id, unless_refused}
+use Rattle.httpedge.specs.HubViews.{StepsOrRefuses, IsActionOf, HubRepresents, Outcome, ReportsOutcome, done, refused, out_of_memory, refusal_in}
+use Rattle.httpedge.specs.Runs.{Follows, Action, Runs, Steps, happens, runs_out_of_memory}
+use Rattle.httpedge.specs.Steps.{Event, Refusal, State, opens, comes, goes, pumps, ticks, compacts, retypes, applied_event, refusal, unknown_id, unless_refused}
 use Rattle.requests.specs.Decision.{undecided}
 use Rattle.httpedge.proofs.Outcomes.{ComesBy}
 
@@ -17,8 +17,8 @@ comes_refused s id bytes None why got is = subst (λ (o : Option Connection). Co
 comes_refused s id bytes (Some c) why got is = absurd cc
 
 -- by the bytes that it doesn't bring
-stays_by : (s : State) (e : Event) (why : Refusal) → refusal s e ≡ Some why → s ≡ unless_refused (refusal s e) s (carried_out s e undecided)
-stays_by s e why is = sym (ap (λ (o : Option Refusal). unless_refused o s (carried_out s e undecided)) is)
+stays_by : (s : State) (e : Event) (why : Refusal) → refusal s e ≡ Some why → s ≡ unless_refused (refusal s e) s (applied_event s e undecided)
+stays_by s e why is = sym (ap (λ (o : Option Refusal). unless_refused o s (applied_event s e undecided)) is)
 
 refused_stays : (s : State) (e : Event) (why : Refusal) → refusal s e ≡ Some why → Steps s e s
 refused_stays s (opens id) why is = (undecided, refl, stays_by s (opens id) why is)
@@ -31,7 +31,7 @@ refused_stays s (retypes file) why is = (undecided, refl, stays_by s (retypes fi
 
 -- ---- events in turn
 
-pub runs_on : (r s t : State) (before : List Happening) (h : Happening) → Runs r before s → Follows s h t → Runs r (before ++ h ∷ []) t
+pub runs_on : (r s t : State) (before : List Action) (h : Action) → Runs r before s → Follows s h t → Runs r (before ++ h ∷ []) t
 runs_on r s t [] h start follows = (t, subst (λ (x : State). Follows x h t) start follows, refl)
 runs_on r s t (g ∷ before) h (mid, first, rest) follows = (mid, first, runs_on mid s t before h rest follows)
 
@@ -39,30 +39,30 @@ runs_on r s t (g ∷ before) h (mid, first, rest) follows = (mid, first, runs_on
 
 -- what happened, and the state after it
 abbrev pub FollowsIn : Outcome → State → Event → Hub → Type 0
-FollowsIn o s e new = (h : Happening) × (t : State) × Happened e o h × Follows s h t × IsIn new t
+FollowsIn o s e new = (h : Action) × (t : State) × IsActionOf e o h × Follows s h t × HubRepresents new t
 
-pub follows_in : (old new : Hub) (e : Event) (o : Outcome) → Handles old e o new → (s : State) → IsIn old s → FollowsIn o s e new
+pub follows_in : (old new : Hub) (e : Event) (o : Outcome) → StepsOrRefuses old e o new → (s : State) → HubRepresents old s → FollowsIn o s e new
 follows_in old new e done handles s is =
     let stepped = handles s is in
     (happens e, stepped.1, refl, stepped.2, stepped.3)
 follows_in old new e (refused why) handles s is =
-    (happens e, s, refl, refused_stays s e why (handles.1 s is), subst (λ (h : Hub). IsIn h s) (sym handles.0) is)
-follows_in old new e starved handles s is =
+    (happens e, s, refl, refused_stays s e why (handles.1 s is), subst (λ (h : Hub). HubRepresents h s) (sym handles.0) is)
+follows_in old new e out_of_memory handles s is =
     let found = handles s is in
-    (starves e found.0, found.1, (found.0, refl), found.2, found.3)
+    (runs_out_of_memory e found.0, found.1, (found.0, refl), found.2, found.3)
 
-pub runs_in : (old new : Hub) (e : Event) (o : Outcome) → Handles old e o new → (r s : State) (before : List Happening) → Runs r before s → IsIn old s
-    → (h : Happening) × (t : State) × Happened e o h × Runs r (before ++ h ∷ []) t × IsIn new t
+pub runs_in : (old new : Hub) (e : Event) (o : Outcome) → StepsOrRefuses old e o new → (r s : State) (before : List Action) → Runs r before s → HubRepresents old s
+    → (h : Action) × (t : State) × IsActionOf e o h × Runs r (before ++ h ∷ []) t × HubRepresents new t
 runs_in old new e o handles r s before ran is =
     let one = follows_in old new e o handles s is in
     (one.0, one.1, one.2, runs_on r s one.1 before one.0 ran one.3, one.4)
 
-pub told_in : (old new : Hub) (e : Event) (o : Outcome) → Handles old e o new → (s : State) → IsIn old s → Tells s e o
-told_in old new e done handles s is = (handles s is).0
-told_in old new e (refused why) handles s is = handles.1 s is
-told_in old new e starved handles s is = (handles s is).2.0
+pub sent_in : (old new : Hub) (e : Event) (o : Outcome) → StepsOrRefuses old e o new → (s : State) → HubRepresents old s → ReportsOutcome s e o
+sent_in old new e done handles s is = (handles s is).0
+sent_in old new e (refused why) handles s is = handles.1 s is
+sent_in old new e out_of_memory handles s is = (handles s is).2.0
 
-pub unchanged_in : (old new : Hub) (e : Event) (o : Outcome) → Handles old e o new → refusal_in o ≢ None → new ≡ old
+pub unchanged_in : (old new : Hub) (e : Event) (o : Outcome) → StepsOrRefuses old e o new → refusal_in o ≢ None → new ≡ old
 unchanged_in old new e done handles denied = absurd (denied refl)
 unchanged_in old new e (refused why) handles denied = handles.0
-unchanged_in old new e starved handles denied = absurd (denied refl)
+unchanged_in old new e out_of_memory handles denied = absurd (denied refl)

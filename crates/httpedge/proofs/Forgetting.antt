@@ -8,7 +8,7 @@ use Rattle.std.specs.Ordering.{nat_cmp, eq_by_cmp}
 use Rattle.api_types.specs.TypesFile.{ServedShape}
 use Rattle.history.specs.History.{History}
 use Rattle.httpedge.specs.declared.shared.Shared.{Shared}
-use Rattle.httpedge.specs.Shares.{SharedStands}
+use Rattle.httpedge.specs.SharedViews.{SharedRepresents}
 use Rattle.httpedge.specs.declared.connection.Connection as conns
 use Rattle.httpedge.specs.declared.connection.Connection.TheVariants as conn
 use Rattle.httpedge.specs.declared.connections.Connections.{Connections as Kept}
@@ -16,11 +16,11 @@ use Rattle.httpedge.specs.declared.event.Change as changes
 use Rattle.httpedge.specs.declared.event.Change.TheVariants as change
 use Rattle.httpedge.specs.declared.ids.Ids.{Ids}
 use Rattle.httpedge.specs.declared.out.Out.{Out}
-use Rattle.httpedge.specs.Changes.{Changes, Makes, Receives}
-use Rattle.httpedge.specs.Connections.{Connection, Standing, waiting, watching, ended, gone, has_ended, is_open, left_out, with_standing, with_taken}
-use Rattle.httpedge.specs.Held.{BecomesAt, Closes, Forgets, Holds, IsApart, IsAt, IsFresh, IsSame, Opens, PutAt, found, has_ended_in, held_or, is_open_in, is_waiting_in, left, out_in, over_by, over_in, over_of}
-use Rattle.httpedge.specs.HubSeen.{Outcome, done, refusal_in, refused}
-use Rattle.httpedge.specs.Ids.{is_in}
+use Rattle.httpedge.specs.ChangeViews.{Changes, Makes, Receives}
+use Rattle.httpedge.specs.Connections.{Connection, Phase, waiting, watching, ended, gone, has_ended, is_open, left_out, with_phase, with_taken}
+use Rattle.httpedge.specs.ConnectionViews.{BecomesAt, Closes, Forgets, ConnectionRepresents, IsApart, IsAt, IsFresh, IsSame, Opens, PutAt, found, has_ended_in, held_or, is_open_in, is_waiting_in, left, out_in, over_by, had_ended_if_over_in, over_of}
+use Rattle.httpedge.specs.HubViews.{Outcome, done, refusal_in, refused}
+use Rattle.httpedge.specs.IdViews.{is_in}
 use Rattle.httpedge.specs.Steps.{unknown_id}
 use Rattle.httpedge.specs.Watches.{pumped}
 use Rattle.httpedge.proofs.Connected.{hidden, itself, tied_same}
@@ -89,7 +89,7 @@ still_apart old held' id e was apart put q has = go (eq_by_cmp nat_cmp id q) (ti
     go true same now = apart q (ap (λ (k : ℕ). is_some (get nat_cmp old.held k)) (sym (same refl)) ∙ was)
     go false same now = apart q now
 
-pub becomes_at : (types : List ServedShape) (still : Bool) (c : Connection) (id : ℕ) (old mid new : Kept) (held' : Map) (e : conns.Connection) → Holds types e c
+pub becomes_at : (types : List ServedShape) (still : Bool) (c : Connection) (id : ℕ) (old mid new : Kept) (held' : Map) (e : conns.Connection) → ConnectionRepresents types e c
     → is_some (get nat_cmp old.held id) ≡ true → IsApart old → ((q : ℕ) → get nat_cmp held' q ≡ cond (eq_by_cmp nat_cmp id q) (Some e) (get nat_cmp old.held q))
     → mid.held ≡ held' → mid.ended ≡ old.ended → mid.cut ≡ old.cut → mid.highest ≡ old.highest → Closes id still old mid
     → (get nat_cmp mid.held id ≡ Some e → IsApart mid → Forgets id e mid new) → BecomesAt types still c id old new
@@ -137,21 +137,21 @@ no_bytes : (xs : List ℕ) → length xs ≡ 0 → xs ≡ []
 no_bytes [] e = refl
 no_bytes (x ∷ xs) e = absurd (omega (arith, e))
 
-none_left : (types : List ServedShape) (out : Out) (c : Connection) (h b : Bool) → (length (left out) == 0) ≡ b → cond b (Some true) None ≡ Some h → Holds types (conn.Ended out) c
-    → Holds types (conn.Over h) c
-none_left types out c h true is over (stands, rest) = (
-  ap is_open stands,
-  ap has_ended stands ∙ some_of over,
-  ap (λ (st : Standing). left_out st (drop c.taken c.written)) stands ∙ rest ∙ no_bytes (left out) (eqb-true (length (left out)) 0 is),
+none_left : (types : List ServedShape) (out : Out) (c : Connection) (h b : Bool) → (length (left out) == 0) ≡ b → cond b (Some true) None ≡ Some h → ConnectionRepresents types (conn.Ended out) c
+    → ConnectionRepresents types (conn.Closed h) c
+none_left types out c h true is over (represents, rest) = (
+  ap is_open represents,
+  ap has_ended represents ∙ some_of over,
+  ap (λ (st : Phase). left_out st (drop c.taken c.written)) represents ∙ rest ∙ no_bytes (left out) (eqb-true (length (left out)) 0 is),
 )
 none_left types out c h false is over holds = absurd (none_some over)
 
-over_holds : (types : List ServedShape) (d : conns.Connection) (c : Connection) (h : Bool) → over_in d ≡ Some h → Holds types d c → Holds types (conn.Over h) c
-over_holds types (conn.Head front) c h over holds = absurd (none_some over)
+over_holds : (types : List ServedShape) (d : conns.Connection) (c : Connection) (h : Bool) → had_ended_if_over_in d ≡ Some h → ConnectionRepresents types d c → ConnectionRepresents types (conn.Closed h) c
+over_holds types (conn.Head prefix) c h over holds = absurd (none_some over)
 over_holds types (conn.Body p) c h over holds = absurd (none_some over)
 over_holds types (conn.Watch w out) c h over holds = absurd (none_some over)
 over_holds types (conn.Ended out) c h over holds = none_left types out c h (length (left out) == 0) refl over holds
-over_holds types (conn.Over had_ended) c h over (closed, had, none) = (closed, had ∙ some_of over, none)
+over_holds types (conn.Closed had_ended) c h over (closed, had, none) = (closed, had ∙ some_of over, none)
 
 -- it is held as it was
 pub forgets_none : (id : ℕ) (d : conns.Connection) (old new : Kept) → get nat_cmp old.held id ≡ Some d → IsApart old → new.held ≡ old.held → new.open_ids ≡ old.open_ids → new.highest ≡ old.highest
@@ -168,12 +168,12 @@ forgets_none id d old new at apart held_is open_is highest_is ended_is cut_is = 
 }
 
 -- its id is kept
-pub forgets_one : (id : ℕ) (d : conns.Connection) (h : Bool) (old new : Kept) → get nat_cmp old.held id ≡ Some d → over_in d ≡ Some h → IsApart old
+pub forgets_one : (id : ℕ) (d : conns.Connection) (h : Bool) (old new : Kept) → get nat_cmp old.held id ≡ Some d → had_ended_if_over_in d ≡ Some h → IsApart old
     → ((q : ℕ) → get nat_cmp new.held q ≡ cond (eq_by_cmp nat_cmp id q) None (get nat_cmp old.held q)) → new.open_ids ≡ old.open_ids → new.highest ≡ old.highest
     → ((q : ℕ) → is_in new.ended.ranges q ≡ cond (eq_by_cmp nat_cmp id q) h (is_in old.ended.ranges q))
     → ((q : ℕ) → is_in new.cut.ranges q ≡ cond (eq_by_cmp nat_cmp id q && cond h false true) true (is_in old.cut.ranges q)) → Forgets id d old new
 forgets_one id d h old new at over apart held_is open_is highest_is ended_is cut_is = record {
-  one = conn.Over h;
+  one = conn.Closed h;
   as_much = λ types c holds. over_holds types d c h over holds;
   put = λ q.
       ap₂ held_or (held_is q) (ap₂ over_by (ended_is q) (cut_is q))
@@ -184,7 +184,7 @@ forgets_one id d h old new at over apart held_is open_is highest_is ended_is cut
 }
   where
     go : (b h : Bool) (o : Option conns.Connection) (x y : Bool)
-        → held_or (cond b None o) (over_by (cond b h x) (cond (b && cond h false true) true y)) ≡ cond b (Some (conn.Over h)) (held_or o (over_by x y))
+        → held_or (cond b None o) (over_by (cond b h x) (cond (b && cond h false true) true y)) ≡ cond b (Some (conn.Closed h)) (held_or o (over_by x y))
     go true true o x y = refl
     go true false o x y = refl
     go false h o x y = refl
@@ -213,39 +213,39 @@ no_id_there f id q none = go (eq_by_cmp nat_cmp id q) (tied_same id q)
 
 -- ---- a change of one that is over
 
-receives_closed : (types : List ServedShape) (m : History) (last_tick : ℕ) (c : Connection) (st : Standing) (bytes : List ℕ) (shared : Shared) → is_open st ≡ false → SharedStands shared types m
+receives_closed : (types : List ServedShape) (m : History) (last_tick : ℕ) (c : Connection) (st : Phase) (bytes : List ℕ) (shared : Shared) → is_open st ≡ false → SharedRepresents shared types m
     → Receives types m last_tick c st bytes c shared
-receives_closed types m last_tick c (waiting front) bytes shared closed stands = absurd (wrong (sym closed))
-receives_closed types m last_tick c (watching w) bytes shared closed stands = absurd (wrong (sym closed))
-receives_closed types m last_tick c ended bytes shared closed stands = (refl, stands)
-receives_closed types m last_tick c (gone had_ended) bytes shared closed stands = (refl, stands)
+receives_closed types m last_tick c (waiting prefix) bytes shared closed represents = absurd (wrong (sym closed))
+receives_closed types m last_tick c (watching w) bytes shared closed represents = absurd (wrong (sym closed))
+receives_closed types m last_tick c ended bytes shared closed represents = (refl, represents)
+receives_closed types m last_tick c (gone had_ended) bytes shared closed represents = (refl, represents)
 
 -- what it makes of it, and that it is over
-makes_over : (types : List ServedShape) (m : History) (last_tick : ℕ) (what : changes.Change) (c : Connection) (h : Bool) (shared : Shared) → SharedStands shared types m → Holds types (conn.Over h) c
-    → (c' : Connection) × Makes types m last_tick what c c' shared × Holds types (conn.Over h) c'
-makes_over types m last_tick (change.Bytes bytes) c h shared stands holds = (c, receives_closed types m last_tick c c.standing bytes.now shared holds.0 stands, holds)
-makes_over types m last_tick (change.Lines max) c h shared stands holds = (c, (sym (turn_closed (pumped m max) c c.standing holds.0), stands), holds)
-makes_over types m last_tick change.Gone c h shared stands holds = (with_standing c (gone (has_ended c.standing)), (refl, stands), (refl, holds.1, refl))
+makes_over : (types : List ServedShape) (m : History) (last_tick : ℕ) (what : changes.Change) (c : Connection) (h : Bool) (shared : Shared) → SharedRepresents shared types m → ConnectionRepresents types (conn.Closed h) c
+    → (c' : Connection) × Makes types m last_tick what c c' shared × ConnectionRepresents types (conn.Closed h) c'
+makes_over types m last_tick (change.Bytes bytes) c h shared represents holds = (c, receives_closed types m last_tick c c.phase bytes.now shared holds.0 represents, holds)
+makes_over types m last_tick (change.Lines max) c h shared represents holds = (c, (sym (turn_closed (pumped m max) c c.phase holds.0), represents), holds)
+makes_over types m last_tick change.Gone c h shared represents holds = (with_phase c (gone (has_ended c.phase)), (refl, represents), (refl, holds.1, refl))
 
 -- one that isn't held is over
-is_over : (a b : Bool) (d : conns.Connection) → over_by a b ≡ Some d → (h : Bool) × (d ≡ conn.Over h)
+is_over : (a b : Bool) (d : conns.Connection) → over_by a b ≡ Some d → (h : Bool) × (d ≡ conn.Closed h)
 is_over true b d is = (true, sym (some_of is))
 is_over false true d is = (false, sym (some_of is))
 is_over false false d is = absurd (none_some is)
 
-pub passes : (types : List ServedShape) (m : History) (last_tick : ℕ) (what : changes.Change) (id : ℕ) (d : conns.Connection) (c : Connection) (k : Kept) (shared : Shared) → SharedStands shared types m
-    → get nat_cmp k.held id ≡ None → IsAt id d k → Holds types d c → Changes types m last_tick what id c k k shared done
-passes types m last_tick what id d c k shared stands none (at, there, apart) holds =
+pub passes : (types : List ServedShape) (m : History) (last_tick : ℕ) (what : changes.Change) (id : ℕ) (d : conns.Connection) (c : Connection) (k : Kept) (shared : Shared) → SharedRepresents shared types m
+    → get nat_cmp k.held id ≡ None → IsAt id d k → ConnectionRepresents types d c → Changes types m last_tick what id c k k shared done
+passes types m last_tick what id d c k shared represents none (at, there, apart) holds =
     let over = is_over (is_in k.ended.ranges id) (is_in k.cut.ranges id) d
     (sym (ap (λ (o : Option conns.Connection). held_or o (over_by (is_in k.ended.ranges id) (is_in k.cut.ranges id))) none) ∙ at) in
-    let made = makes_over types m last_tick what c over.0 shared stands (subst (λ (x : conns.Connection). Holds types x c) over.1 holds) in (
+    let made = makes_over types m last_tick what c over.0 shared represents (subst (λ (x : conns.Connection). ConnectionRepresents types x c) over.1 holds) in (
       made.0,
       made.1,
       record {
         one = d;
-        holds = subst (λ (x : conns.Connection). Holds types x made.0) (sym over.1) made.2;
+        holds = subst (λ (x : conns.Connection). ConnectionRepresents types x made.0) (sym over.1) made.2;
         put = self_put (found k) id d at;
-        open_is = λ q. go q (is_open made.0.standing) made.2.0 (eq_by_cmp nat_cmp id q) (tied_same id q) (there ∙ ap is_open_in over.1);
+        open_is = λ q. go q (is_open made.0.phase) made.2.0 (eq_by_cmp nat_cmp id q) (tied_same id q) (there ∙ ap is_open_in over.1);
         highest = refl;
         apart = apart;
       },
@@ -259,13 +259,13 @@ passes types m last_tick what id d c k shared stands none (at, there, apart) hol
     go q x closed true same shut = no_more (contains nat_cmp k.open_ids q) (ap (contains nat_cmp k.open_ids) (sym (same refl)) ∙ shut) x closed
     go q x closed false same shut = refl
 
-pub takes_passed : (types : List ServedShape) (id n : ℕ) (d : conns.Connection) (c : Connection) (old new : Kept) → get nat_cmp old.held id ≡ None → new ≡ old → IsAt id d old → Holds types d c
+pub takes_passed : (types : List ServedShape) (id n : ℕ) (d : conns.Connection) (c : Connection) (old new : Kept) → get nat_cmp old.held id ≡ None → new ≡ old → IsAt id d old → ConnectionRepresents types d c
     → BecomesAt types true (with_taken c n) id old new
 takes_passed types id n d c old new none same (at, there, apart) holds =
     let over = is_over (is_in old.ended.ranges id) (is_in old.cut.ranges id) d (sym (found_held old id None none) ∙ at) in
     subst (BecomesAt types true (with_taken c n) id old) (sym same) (record {
       one = d;
-      holds = subst (λ (x : conns.Connection). Holds types x (with_taken c n)) (sym over.1) (takes_over types over.0 c n (subst (λ (x : conns.Connection). Holds types x c) over.1 holds));
+      holds = subst (λ (x : conns.Connection). ConnectionRepresents types x (with_taken c n)) (sym over.1) (takes_over types over.0 c n (subst (λ (x : conns.Connection). ConnectionRepresents types x c) over.1 holds));
       put = self_put (found old) id d at;
       open_is = closes_none id old;
       highest = refl;
@@ -282,11 +282,11 @@ passed_is : (k : Kept) (id : ℕ) (f : Option conns.Connection) (o : Outcome) �
 passed_is k id f o none passes is =
     passes ∙ ap (λ (b : Bool). cond b done (refused unknown_id)) (known_by (is_in k.ended.ranges id) (is_in k.cut.ranges id) f (sym (found_held k id None none) ∙ is))
 
-pub pass_known : (types : List ServedShape) (m : History) (last_tick : ℕ) (what : changes.Change) (id : ℕ) (d : conns.Connection) (c : Connection) (old new : Kept) (shared : Shared) (o : Outcome) → SharedStands shared types m
-    → get nat_cmp old.held id ≡ None → new ≡ old → Passes old id o → IsAt id d old → Holds types d c → Changes types m last_tick what id c old new shared o
-pass_known types m last_tick what id d c old new shared o stands none same passed at holds =
+pub pass_known : (types : List ServedShape) (m : History) (last_tick : ℕ) (what : changes.Change) (id : ℕ) (d : conns.Connection) (c : Connection) (old new : Kept) (shared : Shared) (o : Outcome) → SharedRepresents shared types m
+    → get nat_cmp old.held id ≡ None → new ≡ old → Passes old id o → IsAt id d old → ConnectionRepresents types d c → Changes types m last_tick what id c old new shared o
+pass_known types m last_tick what id d c old new shared o represents none same passed at holds =
     subst (Changes types m last_tick what id c old new shared) (sym (passed_is old id (Some d) o none passed at.0))
-    (subst (λ (k : Kept). Changes types m last_tick what id c old k shared done) (sym same) (passes types m last_tick what id d c old shared stands none at holds))
+    (subst (λ (k : Kept). Changes types m last_tick what id c old k shared done) (sym same) (passes types m last_tick what id d c old shared represents none at holds))
 
 pub pass_unknown : (old : Kept) (id : ℕ) (o : Outcome) → get nat_cmp old.held id ≡ None → Passes old id o → found old id ≡ None → o ≡ refused unknown_id
 pass_unknown old id o none passed is = passed_is old id None o none passed is
@@ -299,10 +299,10 @@ pass_taken old id o none passed is = go (found old id) refl is
     go (Some d) at has = ap refusal_in (passed_is old id (Some d) o none passed at)
 
 pub on_ok_is : {A E P : Type 0} (r : Result A E) (a : A) → r ≡ Ok a → OnOk r P → P
-on_ok_is {A} {E} {P} r a is told = subst (λ (x : Result A E). OnOk x P) is told
+on_ok_is {A} {E} {P} r a is reported = subst (λ (x : Result A E). OnOk x P) is reported
 
 pub on_err_is : {A E P : Type 0} (r : Result A E) (e : E) → r ≡ Err e → OnErr r P → P
-on_err_is {A} {E} {P} r e is told = subst (λ (x : Result A E). OnErr x P) is told
+on_err_is {A} {E} {P} r e is reported = subst (λ (x : Result A E). OnErr x P) is reported
 
 pub ok_not_err : {A E : Type 0} {a : A} {e : E} (r : Result A E) → r ≡ Ok a → r ≡ Err e → ⊥
 ok_not_err r is isnt = cc

@@ -8,10 +8,10 @@ use Rattle.std.proofs.lemmas.List.{take-append-drop}
 use Rattle.api_types.specs.TypesFile.{ServedShape}
 use Rattle.history.specs.History.{History}
 use Rattle.requests.specs.Asks.{CallDecision}
-use Rattle.httpedge.specs.Connections.{Connection, Connections, Standing, waiting, watching, ended, gone, each, has_gone, is_new, is_open, left_out, out_of, out_on, with_standing, written_on}
+use Rattle.httpedge.specs.Connections.{Connection, Connections, Phase, waiting, watching, ended, gone, each, has_gone, is_new, is_open, left_out, out_of, out_on, with_phase, written_on}
 use Rattle.requests.specs.Decision.{undecided, refused, accepted}
-use Rattle.httpedge.specs.Runs.{Follows, Happening, happens, starves, takes}
-use Rattle.httpedge.specs.Steps.{Event, Refusal, State, id_not_above, opens, comes, goes, pumps, ticks, compacts, retypes, after_turn, by_connection, connection_after, dead, dead_or_ticked, opening, received_by, refusal, carried_out, starved, unless_refused, turn_bytes, with_connection, with_turn, writes_at}
+use Rattle.httpedge.specs.Runs.{Follows, Action, happens, runs_out_of_memory, takes}
+use Rattle.httpedge.specs.Steps.{Event, Refusal, State, id_not_above, opens, comes, goes, pumps, ticks, compacts, retypes, after_turn, by_connection, connection_after, killed, killed_or_ticked, opening, received_by, refusal, applied_event, out_of_memory, unless_refused, turn_bytes, with_connection, with_turn, writes_at}
 use Rattle.requests.specs.Replies.{answer_bytes, refusal_reply}
 use Rattle.httpedge.specs.Watches.{Turn, Watch, pumped, ticked}
 use Rattle.verbs.specs.Retyping.{retyping}
@@ -31,25 +31,25 @@ Grows o p = (more : List ℕ) × (written_in p ≡ written_in o ++ more)
 same : (o : Option Connection) → Grows o o
 same o = ([], sym (append-nil (written_in o)))
 
-after_grows : (types : List ServedShape) (m : History) (last_tick : ℕ) (c : Connection) (bytes : List ℕ) (asked : CallDecision)
-    → Grows (Some c) (Some (connection_after types m last_tick c bytes asked))
+after_grows : (types : List ServedShape) (m : History) (last_tick : ℕ) (c : Connection) (bytes : List ℕ) (decision : CallDecision)
+    → Grows (Some c) (Some (connection_after types m last_tick c bytes decision))
 after_grows types m last_tick c bytes undecided = same (Some c)
 after_grows types m last_tick c bytes (refused d) = (refusal_reply d, refl)
 after_grows types m last_tick c bytes (accepted call) = (answer_bytes (planned types m call).answer (planned types m call).answer.watch, refl)
 
-turn_grows : (turn : Watch → Turn) (c : Connection) (st : Standing) → Grows (Some c) (Some (after_turn turn c st))
-turn_grows turn c (waiting front) = same (Some c)
+turn_grows : (turn : Watch → Turn) (c : Connection) (st : Phase) → Grows (Some c) (Some (after_turn turn c st))
+turn_grows turn c (waiting prefix) = same (Some c)
 turn_grows turn c (watching w) = (turn_bytes (turn w), refl)
 turn_grows turn c ended = same (Some c)
 turn_grows turn c (gone had_ended) = same (Some c)
 
-dead_grows : (b : Bool) (c : Connection) → Grows (Some c) (Some (cond b (with_standing c ended) c))
+dead_grows : (b : Bool) (c : Connection) → Grows (Some c) (Some (cond b (with_phase c ended) c))
 dead_grows true c = same (Some c)
 dead_grows false c = same (Some c)
 
-dead_or : (types : List ServedShape) (ms : ℕ) (b : Bool) (c : Connection) → Grows (Some c) (Some (cond b (dead c) (with_turn (ticked types ms) c)))
-dead_or types ms true c = dead_grows (is_open c.standing) c
-dead_or types ms false c = turn_grows (ticked types ms) c c.standing
+dead_or : (types : List ServedShape) (ms : ℕ) (b : Bool) (c : Connection) → Grows (Some c) (Some (cond b (killed c) (with_turn (ticked types ms) c)))
+dead_or types ms true c = dead_grows (is_open c.phase) c
+dead_or types ms false c = turn_grows (ticked types ms) c c.phase
 
 -- ---- one of all connections
 
@@ -70,13 +70,13 @@ there_grows : (s : State) (id q : ℕ) (f : Connection → Connection) → ((c :
     → Grows (fin.get s.connections q) (fin.get (by_connection s (fin.get s.connections id) (λ c. with_connection s id (f c))).connections q)
 there_grows s id q f grows = by_grows s q (fin.get s.connections id) _ (λ c got. put_grows s.connections id q (f c) (subst (λ (o : Option Connection). Grows o (Some (f c))) (sym got) (grows c)))
 
-received_grows : (s : State) (id q : ℕ) (c : Connection) (st : Standing) (bytes : List ℕ) (asked : CallDecision) → fin.get s.connections id ≡ Some c
-    → Grows (fin.get s.connections q) (fin.get (received_by s id c st bytes asked).connections q)
-received_grows s id q c (waiting front) bytes asked got =
-    put_grows s.connections id q _ (subst (λ (o : Option Connection). Grows o (Some (connection_after s.types s.machine s.last_tick c (front ++ bytes) asked))) (sym got) (after_grows s.types s.machine s.last_tick c (front ++ bytes) asked))
-received_grows s id q c (watching w) bytes asked got = same (fin.get s.connections q)
-received_grows s id q c ended bytes asked got = same (fin.get s.connections q)
-received_grows s id q c (gone had_ended) bytes asked got = same (fin.get s.connections q)
+received_grows : (s : State) (id q : ℕ) (c : Connection) (st : Phase) (bytes : List ℕ) (decision : CallDecision) → fin.get s.connections id ≡ Some c
+    → Grows (fin.get s.connections q) (fin.get (received_by s id c st bytes decision).connections q)
+received_grows s id q c (waiting prefix) bytes decision got =
+    put_grows s.connections id q _ (subst (λ (o : Option Connection). Grows o (Some (connection_after s.types s.machine s.last_tick c (prefix ++ bytes) decision))) (sym got) (after_grows s.types s.machine s.last_tick c (prefix ++ bytes) decision))
+received_grows s id q c (watching w) bytes decision got = same (fin.get s.connections q)
+received_grows s id q c ended bytes decision got = same (fin.get s.connections q)
+received_grows s id q c (gone had_ended) bytes decision got = same (fin.get s.connections q)
 
 each_by : (f : ℕ → Connection → Connection) (id : ℕ) (o : Option Connection) → ((c : Connection) → Grows (Some c) (Some (f id c))) → Grows o (option_map (f id) o)
 each_by f id None grows = same None
@@ -97,43 +97,43 @@ unless_grows : (s t : State) (o : Option Refusal) (q : ℕ) → Grows (fin.get s
 unless_grows s t None q then = then
 unless_grows s t (Some why) q then = same (fin.get s.connections q)
 
-stepped_grows : (s : State) (e : Event) (asked : CallDecision) (q : ℕ) → Grows (fin.get s.connections q) (fin.get (unless_refused (refusal s e) s (carried_out s e asked)).connections q)
-stepped_grows s (opens id) asked q = opens_grows s id q (is_new s.connections id) refl
-stepped_grows s (comes id bytes) asked q = unless_grows s _ (refusal s (comes id bytes)) q (by_grows s q (fin.get s.connections id) _ (λ c got. received_grows s id q c c.standing bytes asked got))
-stepped_grows s (goes id) asked q = unless_grows s _ (refusal s (goes id)) q (there_grows s id q _ (λ c. same (Some c)))
-stepped_grows s (pumps id max) asked q =
-    unless_grows s _ (refusal s (pumps id max)) q (there_grows s id q (with_turn (pumped s.machine max)) (λ c. turn_grows (pumped s.machine max) c c.standing))
-stepped_grows s (ticks ms) asked q =
-    unless_grows s _ (refusal s (ticks ms)) q (each_grows (λ id c. with_turn (ticked s.types ms) c) s.connections q (λ c. turn_grows (ticked s.types ms) c c.standing))
-stepped_grows s (compacts c) asked q = unless_grows s _ (refusal s (compacts c)) q (same (fin.get s.connections q))
-stepped_grows s (retypes file) asked q =
+stepped_grows : (s : State) (e : Event) (decision : CallDecision) (q : ℕ) → Grows (fin.get s.connections q) (fin.get (unless_refused (refusal s e) s (applied_event s e decision)).connections q)
+stepped_grows s (opens id) decision q = opens_grows s id q (is_new s.connections id) refl
+stepped_grows s (comes id bytes) decision q = unless_grows s _ (refusal s (comes id bytes)) q (by_grows s q (fin.get s.connections id) _ (λ c got. received_grows s id q c c.phase bytes decision got))
+stepped_grows s (goes id) decision q = unless_grows s _ (refusal s (goes id)) q (there_grows s id q _ (λ c. same (Some c)))
+stepped_grows s (pumps id max) decision q =
+    unless_grows s _ (refusal s (pumps id max)) q (there_grows s id q (with_turn (pumped s.machine max)) (λ c. turn_grows (pumped s.machine max) c c.phase))
+stepped_grows s (ticks ms) decision q =
+    unless_grows s _ (refusal s (ticks ms)) q (each_grows (λ id c. with_turn (ticked s.types ms) c) s.connections q (λ c. turn_grows (ticked s.types ms) c c.phase))
+stepped_grows s (compacts c) decision q = unless_grows s _ (refusal s (compacts c)) q (same (fin.get s.connections q))
+stepped_grows s (retypes file) decision q =
     unless_grows s _ (refusal s (retypes file)) q
     (subst (λ (all : Connections). Grows (fin.get s.connections q) (fin.get all q)) (sym (same_connections s (retyping s.types s.machine file))) (same (fin.get s.connections q)))
 
-starved_grows : (s : State) (e : Event) (which : ℕ → Bool) (q : ℕ) → Grows (fin.get s.connections q) (fin.get (starved s e which).connections q)
-starved_grows s (opens id) which q = same (fin.get s.connections q)
-starved_grows s (comes id bytes) which q = there_grows s id q dead (λ c. dead_grows (is_open c.standing) c)
-starved_grows s (goes id) which q = same (fin.get s.connections q)
-starved_grows s (pumps id max) which q = there_grows s id q dead (λ c. dead_grows (is_open c.standing) c)
-starved_grows s (ticks ms) which q = each_grows (λ id c. dead_or_ticked s.types ms (which id) c) s.connections q (λ c. dead_or s.types ms (which q && writes_at ms c.standing) c)
-starved_grows s (compacts c) which q = same (fin.get s.connections q)
-starved_grows s (retypes file) which q = same (fin.get s.connections q)
+out_of_memory_grows : (s : State) (e : Event) (which : ℕ → Bool) (q : ℕ) → Grows (fin.get s.connections q) (fin.get (out_of_memory s e which).connections q)
+out_of_memory_grows s (opens id) which q = same (fin.get s.connections q)
+out_of_memory_grows s (comes id bytes) which q = there_grows s id q killed (λ c. dead_grows (is_open c.phase) c)
+out_of_memory_grows s (goes id) which q = same (fin.get s.connections q)
+out_of_memory_grows s (pumps id max) which q = there_grows s id q killed (λ c. dead_grows (is_open c.phase) c)
+out_of_memory_grows s (ticks ms) which q = each_grows (λ id c. killed_or_ticked s.types ms (which id) c) s.connections q (λ c. dead_or s.types ms (which q && writes_at ms c.phase) c)
+out_of_memory_grows s (compacts c) which q = same (fin.get s.connections q)
+out_of_memory_grows s (retypes file) which q = same (fin.get s.connections q)
 
-pub grows : (s t : State) (h : Happening) (q : ℕ) → Follows s h t → (more : List ℕ) × (written_on t.connections q ≡ written_on s.connections q ++ more)
-grows s t (happens e) q (asked, asks, is) = subst (λ (x : State). Grows (fin.get s.connections q) (fin.get x.connections q)) (sym is) (stepped_grows s e asked q)
-grows s t (starves e which) q (unrefused, memory, is) = subst (λ (x : State). Grows (fin.get s.connections q) (fin.get x.connections q)) (sym is) (starved_grows s e which q)
+pub grows : (s t : State) (h : Action) (q : ℕ) → Follows s h t → (more : List ℕ) × (written_on t.connections q ≡ written_on s.connections q ++ more)
+grows s t (happens e) q (decision, asks, is) = subst (λ (x : State). Grows (fin.get s.connections q) (fin.get x.connections q)) (sym is) (stepped_grows s e decision q)
+grows s t (runs_out_of_memory e which) q (unrefused, memory, is) = subst (λ (x : State). Grows (fin.get s.connections q) (fin.get x.connections q)) (sym is) (out_of_memory_grows s e which q)
 grows s t (takes id n) q is = subst (λ (x : State). Grows (fin.get s.connections q) (fin.get x.connections q)) (sym is) (there_grows s id q _ (λ c. same (Some c)))
 
 -- ---- what was taken, and what is out
 
-all_out : (st : Standing) (bytes : List ℕ) → has_gone st ≡ false → left_out st bytes ≡ bytes
-all_out (waiting front) bytes is = refl
+all_out : (st : Phase) (bytes : List ℕ) → has_gone st ≡ false → left_out st bytes ≡ bytes
+all_out (waiting prefix) bytes is = refl
 all_out (watching w) bytes is = refl
 all_out ended bytes is = refl
 all_out (gone had_ended) bytes is = absurd cc
 
-pub parts : (all : Connections) (id : ℕ) (c : Connection) → fin.get all id ≡ Some c → has_gone c.standing ≡ false → written_on all id ≡ take c.taken c.written ++ out_on all id
+pub parts : (all : Connections) (id : ℕ) (c : Connection) → fin.get all id ≡ Some c → has_gone c.phase ≡ false → written_on all id ≡ take c.taken c.written ++ out_on all id
 parts all id c got here =
     ap written_in got ∙ sym (take-append-drop c.taken c.written)
-    ∙ ap (λ (rest : List ℕ). take c.taken c.written ++ rest) (sym (all_out c.standing (drop c.taken c.written) here))
+    ∙ ap (λ (rest : List ℕ). take c.taken c.written ++ rest) (sym (all_out c.phase (drop c.taken c.written) here))
     ∙ ap (λ (o : Option Connection). take c.taken c.written ++ unwrap_or (option_map out_of o) []) (sym got)

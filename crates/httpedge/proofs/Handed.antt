@@ -3,42 +3,42 @@ use Rattle.std.proofs.Common.{◌≡◌, ◌<◌, ◌≤◌, ◌∙◌, ℕ, Boo
 use Rattle.std.specs.Prelude.{◌-◌, nat_lt, unwrap_or}
 use Rattle.std.specs.Result.{is_ok}
 use Rattle.std.proofs.lemmas.Bool.{le-ltb, lt-ltb}
-use Rattle.httpedge.specs.HubSeen.{Happened, IsIn, Outcome, Tells, done, refused, starved, outcome_of}
-use Rattle.httpedge.specs.Runs.{Follows, Happening, Runs, happens, starves, takes}
+use Rattle.httpedge.specs.HubViews.{IsActionOf, HubRepresents, Outcome, ReportsOutcome, done, refused, out_of_memory, outcome_of}
+use Rattle.httpedge.specs.Runs.{Follows, Action, Runs, happens, runs_out_of_memory, takes}
 use Rattle.httpedge.specs.Steps.{Event, State, compacts}
-use Rattle.httpedge.specs.Streams.{Compacts, MovesBy, Hands, HandsIf, IsDone, event_in}
+use Rattle.httpedge.specs.StreamViews.{Compacts, MovesBy, Hands, HandsIf, IsDone, event_in}
 use Rattle.httpedge.specs.declared.fault.HubFault.{HubFault}
 use Rattle.httpedge.specs.declared.hub.Hub.{Hub}
 
 -- ---- what happens in turn
 
-pub runs_then : (s mid t : State) (hs gs : List Happening) → Runs s hs mid → Runs mid gs t → Runs s (hs ++ gs) t
+pub runs_then : (s mid t : State) (hs gs : List Action) → Runs s hs mid → Runs mid gs t → Runs s (hs ++ gs) t
 runs_then s mid t [] gs is then = subst (λ (x : State). Runs x gs t) is then
 runs_then s mid t (h ∷ hs) gs (next, follows, rest) then = (next, follows, runs_then next mid t hs gs rest then)
 
 -- ---- one event
 
 -- an event that happened, or found no memory
-by_event : (e : Event) (o : Outcome) (h : Happening) (P : Happening → Type 0) → P (happens e) → ((which : ℕ → Bool) → P (starves e which)) → Happened e o h → P h
+by_event : (e : Event) (o : Outcome) (h : Action) (P : Action → Type 0) → P (happens e) → ((which : ℕ → Bool) → P (runs_out_of_memory e which)) → IsActionOf e o h → P h
 by_event e done h P one none is = subst P (sym is) one
 by_event e (refused why) h P one none is = subst P (sym is) one
-by_event e starved h P one none is = subst P (sym is.1) (none is.0)
+by_event e out_of_memory h P one none is = subst P (sym is.1) (none is.0)
 
 -- what the hub says of an event
 abbrev pub FollowsBy : {A : Type 0} → Hub → Event → Result A HubFault → Hub → Type 0
-FollowsBy x e r y = (s : State) → IsIn x s → (h : Happening) × (t : State) × Happened e (outcome_of r) h × Follows s h t × IsIn y t
+FollowsBy x e r y = (s : State) → HubRepresents x s → (h : Action) × (t : State) × IsActionOf e (outcome_of r) h × Follows s h t × HubRepresents y t
 
 pub hands_event : {A : Type 0} (x y : Hub) (e : Event) (r : Result A HubFault) → FollowsBy x e r y → MovesBy (Hands e) x y
 hands_event x y e r follows = λ s is.
     let one = follows s is in
     (one.1, (one.0, by_event e (outcome_of r) one.0 (λ h. event_in h ≡ Some e) refl (λ which. refl) one.2, one.3), one.4)
 
-pub done_event : {A : Type 0} (x y : Hub) (e : Event) (r : Result A HubFault) → ((s : State) → IsIn x s → Tells s e (outcome_of r)) → FollowsBy x e r y → is_ok r ≡ true
+pub done_event : {A : Type 0} (x y : Hub) (e : Event) (r : Result A HubFault) → ((s : State) → HubRepresents x s → ReportsOutcome s e (outcome_of r)) → FollowsBy x e r y → is_ok r ≡ true
     → MovesBy (IsDone e) x y
-done_event x y e (Ok a) told follows well = λ s is.
+done_event x y e (Ok a) reported follows well = λ s is.
     let one = follows s is in
-    (one.1, (told s is, subst (λ h. Follows s h one.1) one.2 one.3), one.4)
-done_event x y e (Err f) told follows well = absurd cc
+    (one.1, (reported s is, subst (λ h. Follows s h one.1) one.2 one.3), one.4)
+done_event x y e (Err f) reported follows well = absurd cc
 
 same_event : (d e : Event) → Some d ≡ Some e → d ≡ e
 same_event d e same = ap (λ (o : Option Event). unwrap_or o e) same
@@ -47,9 +47,9 @@ isnt_there : (e : Event) → Some e ≡ None → ⊥
 isnt_there e same = cc
 
 -- what is so of an event that was handed over, also where it finds no memory, is so of what happened
-pub by_hands : (e : Event) (P : Happening → Type 0) → P (happens e) → ((which : ℕ → Bool) → P (starves e which)) → (h : Happening) → event_in h ≡ Some e → P h
+pub by_hands : (e : Event) (P : Action → Type 0) → P (happens e) → ((which : ℕ → Bool) → P (runs_out_of_memory e which)) → (h : Action) → event_in h ≡ Some e → P h
 by_hands e P one none (happens d) is = subst (λ (x : Event). P (happens x)) (sym (same_event d e is)) one
-by_hands e P one none (starves d which) is = subst (λ (x : Event). P (starves x which)) (sym (same_event d e is)) (none which)
+by_hands e P one none (runs_out_of_memory d which) is = subst (λ (x : Event). P (runs_out_of_memory x which)) (sym (same_event d e is)) (none which)
 by_hands e P one none (takes id n) is = absurd (isnt_there e (sym is))
 
 -- ---- a compaction
@@ -66,8 +66,8 @@ skips_if true e s is = absurd (wrong (sym is))
 skips_if false e s is = refl
 
 -- what is told of the machine is so in each state of the hub
-abbrev pub IsTold : {E : Type 0} → Hub → Result (ℕ × ℕ) E → Type 0
-IsTold x r = (s : State) → IsIn x s → r ≡ Ok (s.machine.current, s.machine.compacted)
+abbrev pub IsReported : {E : Type 0} → Hub → Result (ℕ × ℕ) E → Type 0
+IsReported x r = (s : State) → HubRepresents x s → r ≡ Ok (s.machine.current, s.machine.compacted)
 
 abbrev Marks : Type 0 → Type 0
 Marks E = Result (ℕ × ℕ) E
@@ -76,16 +76,16 @@ abbrev marks_of : {E : Type 0} → Marks E → ℕ × ℕ
 marks_of (Ok p) = p
 marks_of (Err e) = (0, 0)
 
-abbrev told_as : {E : Type 0} → ℕ × ℕ → Marks E
-told_as p = Ok p
+abbrev reported_as : {E : Type 0} → ℕ × ℕ → Marks E
+reported_as p = Ok p
 
-parts : {E : Type 0} (a b c d : ℕ) → told_as {E = E} (a, b) ≡ told_as (c, d) → (a ≡ c) × (b ≡ d)
+parts : {E : Type 0} (a b c d : ℕ) → reported_as {E = E} (a, b) ≡ reported_as (c, d) → (a ≡ c) × (b ≡ d)
 parts a b c d same = (ap (λ r. (marks_of r).0) same, ap (λ r. (marks_of r).1) same)
 
-pub compacts_then : {E : Type 0} (x y : Hub) (keep current compacted revision : ℕ) (told : Result (ℕ × ℕ) E) → IsTold x told → told ≡ Ok (current, compacted)
+pub compacts_then : {E : Type 0} (x y : Hub) (keep current compacted revision : ℕ) (reported : Result (ℕ × ℕ) E) → IsReported x reported → reported ≡ Ok (current, compacted)
     → revision ≡ current - keep → compacted < revision → MovesBy (Hands (compacts revision)) x y → MovesBy (Compacts keep) x y
-compacts_then x y keep current compacted revision told tells is at rises hands = λ s here.
-    let same = parts current compacted s.machine.current s.machine.compacted (sym is ∙ tells s here) in
+compacts_then x y keep current compacted revision reported reports is at rises hands = λ s here.
+    let same = parts current compacted s.machine.current s.machine.compacted (sym is ∙ reports s here) in
     let ran = hands s here in
     let now : revision ≡ s.machine.current - keep = at ∙ ap (λ n. n - keep) same.0 in (
       ran.0,
@@ -94,16 +94,16 @@ compacts_then x y keep current compacted revision told tells is at rises hands =
       ran.2,
     )
 
-pub compacts_not : {E : Type 0} (x : Hub) (keep current compacted revision : ℕ) (told : Result (ℕ × ℕ) E) → IsTold x told → told ≡ Ok (current, compacted)
+pub compacts_not : {E : Type 0} (x : Hub) (keep current compacted revision : ℕ) (reported : Result (ℕ × ℕ) E) → IsReported x reported → reported ≡ Ok (current, compacted)
     → revision ≡ current - keep → revision ≤ compacted → MovesBy (Compacts keep) x x
-compacts_not x keep current compacted revision told tells is at rises = λ s here.
-    let same = parts current compacted s.machine.current s.machine.compacted (sym is ∙ tells s here) in
+compacts_not x keep current compacted revision reported reports is at rises = λ s here.
+    let same = parts current compacted s.machine.current s.machine.compacted (sym is ∙ reports s here) in
     let now : revision ≡ s.machine.current - keep = at ∙ ap (λ n. n - keep) same.0 in
     (s, skips_if (nat_lt s.machine.compacted (s.machine.current - keep)) (compacts (s.machine.current - keep)) s (sym (ap₂ nat_lt same.1 now) ∙ le-ltb compacted revision rises), here)
 
-told_none : {E : Type 0} (e : E) (p : ℕ × ℕ) (told : Marks E) → told ≡ Err e → told ≡ Ok p → ⊥
-told_none e p told is isnt = cc
+reported_none : {E : Type 0} (e : E) (p : ℕ × ℕ) (reported : Marks E) → reported ≡ Err e → reported ≡ Ok p → ⊥
+reported_none e p reported is isnt = cc
 
 -- a hub whose marks can't be told is in no state
-pub compacts_none : {E : Type 0} (x : Hub) (keep : ℕ) (e : E) (told : Result (ℕ × ℕ) E) → IsTold x told → told ≡ Err e → MovesBy (Compacts keep) x x
-compacts_none x keep e told tells is = λ s here. absurd (told_none e (s.machine.current, s.machine.compacted) told is (tells s here))
+pub compacts_none : {E : Type 0} (x : Hub) (keep : ℕ) (e : E) (reported : Result (ℕ × ℕ) E) → IsReported x reported → reported ≡ Err e → MovesBy (Compacts keep) x x
+compacts_none x keep e reported reports is = λ s here. absurd (reported_none e (s.machine.current, s.machine.compacted) reported is (reports s here))

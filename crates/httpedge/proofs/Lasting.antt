@@ -5,7 +5,7 @@ use Rattle.std.specs.FinMap as fin
 use Rattle.std.specs.Str.{is_utf8}
 use Rattle.serde_json.specs.Data.{Data}
 use Rattle.serde_json.specs.Read.{read}
-use Rattle.fieldpath.proofs.Spelled.{spelled-read}
+use Rattle.fieldpath.proofs.Encodable.{encodable-read}
 use Rattle.api_types.specs.TypesFile.{ServedShape}
 use Rattle.history.specs.History.{History}
 use Rattle.api_request.specs.Admit.{admitted}
@@ -18,11 +18,11 @@ use Rattle.verbs.proofs.Promise.{steps_keep_machines}
 use Rattle.verbs.proofs.Retypings.{retypings_keep_machines}
 use Rattle.requests.specs.Asks.{CallDecision, asked_by, call_in}
 use Rattle.requests.specs.Bodies.{body_in, body_of, checked_media, declared_body, declared_length, json_in, path_of, query_of, some_json}
-use Rattle.httpedge.specs.Connections.{Connection, Standing, waiting, watching, ended, gone}
+use Rattle.httpedge.specs.Connections.{Connection, Phase, waiting, watching, ended, gone}
 use Rattle.requests.specs.Decision.{Decision, undecided, refused, accepted, and_then, decided_by}
 use Rattle.requests.specs.Heads.{HeadDecision, Request}
-use Rattle.httpedge.specs.Runs.{AsksIf, Follows, Happening, Runs, bytes_at, happens, starves, takes}
-use Rattle.httpedge.specs.Steps.{Event, Refusal, State, compaction_refused, opens, comes, goes, pumps, ticks, compacts, retypes, by_connection, carried_out, machine_after, received_by, refusal, starved, unless_refused, with_types}
+use Rattle.httpedge.specs.Runs.{AsksIf, Follows, Action, Runs, bytes_at, happens, runs_out_of_memory, takes}
+use Rattle.httpedge.specs.Steps.{Event, Refusal, State, compaction_refused, opens, comes, goes, pumps, ticks, compacts, retypes, by_connection, applied_event, machine_after, received_by, refusal, out_of_memory, unless_refused, with_types}
 
 -- ---- the body of a call that bytes ask is a value that a JSON text spells
 
@@ -46,7 +46,7 @@ went_on (accepted a) f b e = (a, refl, e)
 
 read_json : (bytes : List ℕ) (o : Option Data) → read bytes ≡ o → (value : Option Data) → some_json o ≡ accepted value → IsJsonBody value
 read_json bytes None is value e = absurd (true≢false (sym (ap is_accepted e)))
-read_json bytes (Some d) is value e = subst IsJsonBody (accepted_is (Some d) value e) (spelled-read bytes d is)
+read_json bytes (Some d) is value e = subst IsJsonBody (accepted_is (Some d) value e) (encodable-read bytes d is)
 
 text_json : (bytes : List ℕ) (value : Option Data) → some_json (json_in bytes) ≡ accepted value → IsJsonBody value
 text_json bytes value e = go (is_utf8 bytes) e
@@ -79,26 +79,26 @@ head_json types head call e =
     let r = went_on head _ call e in
     call_json types r.0.0 r.0.1 call r.2
 
-asked_json : (s : State) (bytes : Option (List ℕ)) (asked : CallDecision) → AsksIf s bytes asked → (call : Call) → asked ≡ accepted call → IsJsonBody call.body
-asked_json s None asked is call e = absurd (true≢false (sym (ap is_accepted (sym is ∙ e))))
-asked_json s (Some bytes) asked is call e = head_json s.types is.0 call (sym is.2 ∙ e)
+asked_json : (s : State) (bytes : Option (List ℕ)) (decision : CallDecision) → AsksIf s bytes decision → (call : Call) → decision ≡ accepted call → IsJsonBody call.body
+asked_json s None decision is call e = absurd (true≢false (sym (ap is_accepted (sym is ∙ e))))
+asked_json s (Some bytes) decision is call e = head_json s.types is.0 call (sym is.2 ∙ e)
 
 -- ---- one event
 
 abbrev Lasts : State → Type 0
 Lasts s = IsMachine s.types s.machine
 
-made_lasts : (types : List ServedShape) (m : History) (asked : CallDecision) → ((call : Call) → asked ≡ accepted call → IsJsonBody call.body) → IsMachine types m → IsMachine types (machine_after types m asked)
+made_lasts : (types : List ServedShape) (m : History) (decision : CallDecision) → ((call : Call) → decision ≡ accepted call → IsJsonBody call.body) → IsMachine types m → IsMachine types (machine_after types m decision)
 made_lasts types m undecided json is = is
 made_lasts types m (refused d) json is = is
 made_lasts types m (accepted call) json is = steps_keep_machines types m call is (json call refl)
 
-received_lasts : (s : State) (id : ℕ) (c : Connection) (st : Standing) (bytes : List ℕ) (asked : CallDecision) → ((call : Call) → asked ≡ accepted call → IsJsonBody call.body) → Lasts s
-    → Lasts (received_by s id c st bytes asked)
-received_lasts s id c (waiting front) bytes asked json is = made_lasts s.types s.machine asked json is
-received_lasts s id c (watching w) bytes asked json is = is
-received_lasts s id c ended bytes asked json is = is
-received_lasts s id c (gone had_ended) bytes asked json is = is
+received_lasts : (s : State) (id : ℕ) (c : Connection) (st : Phase) (bytes : List ℕ) (decision : CallDecision) → ((call : Call) → decision ≡ accepted call → IsJsonBody call.body) → Lasts s
+    → Lasts (received_by s id c st bytes decision)
+received_lasts s id c (waiting prefix) bytes decision json is = made_lasts s.types s.machine decision json is
+received_lasts s id c (watching w) bytes decision json is = is
+received_lasts s id c ended bytes decision json is = is
+received_lasts s id c (gone had_ended) bytes decision json is = is
 
 by_lasts : (s : State) (o : Option Connection) (f : Connection → State) → ((c : Connection) → Lasts (f c)) → Lasts s → Lasts (by_connection s o f)
 by_lasts s None f stays is = is
@@ -121,38 +121,38 @@ retyped_lasts : (s : State) (file : Data) (r : Result (List ServedShape) RetypeR
 retyped_lasts s file (Ok others) got is = retypings_keep_machines s.types others s.machine file is got
 retyped_lasts s file (Err why) got is = is
 
-carried_lasts : (s : State) (e : Event) (asked : CallDecision) → ((call : Call) → asked ≡ accepted call → IsJsonBody call.body) → refusal s e ≡ None → Lasts s → Lasts (carried_out s e asked)
-carried_lasts s (opens id) asked json free is = is
-carried_lasts s (comes id bytes) asked json free is = by_lasts s (fin.get s.connections id) _ (λ c. received_lasts s id c c.standing bytes asked json is) is
-carried_lasts s (goes id) asked json free is = by_lasts s (fin.get s.connections id) _ (λ c. is) is
-carried_lasts s (pumps id max) asked json free is = by_lasts s (fin.get s.connections id) _ (λ c. is) is
-carried_lasts s (ticks ms) asked json free is = is
-carried_lasts s (compacts c) asked json free is =
+carried_lasts : (s : State) (e : Event) (decision : CallDecision) → ((call : Call) → decision ≡ accepted call → IsJsonBody call.body) → refusal s e ≡ None → Lasts s → Lasts (applied_event s e decision)
+carried_lasts s (opens id) decision json free is = is
+carried_lasts s (comes id bytes) decision json free is = by_lasts s (fin.get s.connections id) _ (λ c. received_lasts s id c c.phase bytes decision json is) is
+carried_lasts s (goes id) decision json free is = by_lasts s (fin.get s.connections id) _ (λ c. is) is
+carried_lasts s (pumps id max) decision json free is = by_lasts s (fin.get s.connections id) _ (λ c. is) is
+carried_lasts s (ticks ms) decision json free is = is
+carried_lasts s (compacts c) decision json free is =
     let range = both (nat_le s.machine.compacted c) (nat_le c s.machine.current) (in_range _ free) in
     compactions_keep_machines s.types s.machine c is (leb-true _ _ range.0) (leb-true _ _ range.1)
-carried_lasts s (retypes file) asked json free is = retyped_lasts s file (retyping s.types s.machine file) refl is
+carried_lasts s (retypes file) decision json free is = retyped_lasts s file (retyping s.types s.machine file) refl is
 
 unless_lasts : (s t : State) (o : Option Refusal) → (o ≡ None → Lasts t) → Lasts s → Lasts (unless_refused o s t)
 unless_lasts s t None stays is = stays refl
 unless_lasts s t (Some why) stays is = is
 
-starved_lasts : (s : State) (e : Event) (which : ℕ → Bool) → Lasts s → Lasts (starved s e which)
-starved_lasts s (opens id) which is = is
-starved_lasts s (comes id bytes) which is = by_lasts s (fin.get s.connections id) _ (λ c. is) is
-starved_lasts s (goes id) which is = is
-starved_lasts s (pumps id max) which is = by_lasts s (fin.get s.connections id) _ (λ c. is) is
-starved_lasts s (ticks ms) which is = is
-starved_lasts s (compacts c) which is = is
-starved_lasts s (retypes file) which is = is
+out_of_memory_lasts : (s : State) (e : Event) (which : ℕ → Bool) → Lasts s → Lasts (out_of_memory s e which)
+out_of_memory_lasts s (opens id) which is = is
+out_of_memory_lasts s (comes id bytes) which is = by_lasts s (fin.get s.connections id) _ (λ c. is) is
+out_of_memory_lasts s (goes id) which is = is
+out_of_memory_lasts s (pumps id max) which is = by_lasts s (fin.get s.connections id) _ (λ c. is) is
+out_of_memory_lasts s (ticks ms) which is = is
+out_of_memory_lasts s (compacts c) which is = is
+out_of_memory_lasts s (retypes file) which is = is
 
 -- ---- all that happens
 
-follows_lasts : (s t : State) (h : Happening) → Follows s h t → Lasts s → Lasts t
-follows_lasts s t (happens e) (asked, asks, to) is =
-    subst Lasts (sym to) (unless_lasts s (carried_out s e asked) (refusal s e) (λ free. carried_lasts s e asked (asked_json s (bytes_at s e) asked asks) free is) is)
-follows_lasts s t (starves e which) (free, wants, to) is = subst Lasts (sym to) (starved_lasts s e which is)
+follows_lasts : (s t : State) (h : Action) → Follows s h t → Lasts s → Lasts t
+follows_lasts s t (happens e) (decision, asks, to) is =
+    subst Lasts (sym to) (unless_lasts s (applied_event s e decision) (refusal s e) (λ free. carried_lasts s e decision (asked_json s (bytes_at s e) decision asks) free is) is)
+follows_lasts s t (runs_out_of_memory e which) (free, wants, to) is = subst Lasts (sym to) (out_of_memory_lasts s e which is)
 follows_lasts s t (takes id n) to is = subst Lasts (sym to) (by_lasts s (fin.get s.connections id) _ (λ c. is) is)
 
-pub runs_last : (s t : State) (hs : List Happening) → IsMachine s.types s.machine → Runs s hs t → IsMachine t.types t.machine
+pub runs_last : (s t : State) (hs : List Action) → IsMachine s.types s.machine → Runs s hs t → IsMachine t.types t.machine
 runs_last s t [] is to = subst Lasts (sym to) is
 runs_last s t (h ∷ hs) is (mid, first, rest) = runs_last mid t hs (follows_lasts s mid h first is) rest

@@ -6,7 +6,7 @@ use Rattle.std.specs.List.{list_all}
 use Rattle.std.proofs.lemmas.Bool.{le-ltb, lt-ltb, ltb-true}
 use Rattle.std.specs.FinMap as fin
 use Rattle.httpedge.specs.Connections.{Connections, highest, id_after, is_new, next_id}
-use Rattle.httpedge.specs.Held.{is_above}
+use Rattle.httpedge.specs.ConnectionViews.{is_above}
 
 and_parts : (a b : Bool) → a && b ≡ true → (a ≡ true) × (b ≡ true)
 and_parts true b h = (refl, h)

@@ -19,11 +19,11 @@ use Rattle.api_types.specs.Refusals as schemas
 use Rattle.schema.specs.Shape.{text}
 use Rattle.api_types.specs.TypesFile.{ServedShape, declared_types, is_named, number_from, type_number}
 use Rattle.api_types.proofs.Keeping.{fields_stay}
-use Rattle.history.specs.History.{History, last_revision, standing}
-use Rattle.api_request.specs.Admit.{Parts, Place, admitted, has_status, kind_in, kind_with, parts_by, place_admitted, place_by, place_in, place_of, routes}
+use Rattle.history.specs.History.{History, last_revision, current_objects}
+use Rattle.api_request.specs.Admit.{Parts, RequestInfo, admitted, has_status, kind_in, kind_with, parts_by, place_admitted, place_by, place_in, place_of, routes}
 use Rattle.api_request.specs.Calls.{Denied, Target}
-use Rattle.verbs.specs.Retyping.{RetypeRefusal, changed_objects, if_declared, if_lawful, if_left, not_lawful, not_types, retyping, too_few_revisions}
-use Rattle.httpedge.specs.Shares.{SharedStands}
+use Rattle.verbs.specs.Retyping.{RetypeRefusal, changed_objects, if_declared, if_compatible, if_left, not_lawful, not_types, retyping, too_few_revisions}
+use Rattle.httpedge.specs.SharedViews.{SharedRepresents}
 use Rattle.httpedge.specs.declared.shared.Shared.{Shared}
 use Rattle.api_request.specs.declared.resource.Resource.{Resource}
 use Rattle.api_request.specs.declared.resource.Resource.TheVariants.{AllNamespaces, Collection, Object, Status}
@@ -37,7 +37,7 @@ use Rattle.httpedge.specs.declared.connection.Connection as conns
 use Rattle.httpedge.specs.declared.connection.Connection.TheVariants as conn
 use Rattle.httpedge.specs.declared.connections.Connections.{Connections as Kept}
 use Rattle.httpedge.specs.Connections.{Connection}
-use Rattle.httpedge.specs.Held.{Holds, HoldsAt, Represents, found}
+use Rattle.httpedge.specs.ConnectionViews.{ConnectionRepresents, ConnectionRepresentsAt, PartsRepresent, found}
 use Rattle.httpedge.specs.Runs.{lasting}
 use Rattle.httpedge.specs.Steps.{State, with_types}
 
@@ -127,7 +127,7 @@ same_with types others lasts AllNamespaces kind = refl
 same_with types others lasts Collection kind = refl
 same_with types others lasts Object kind = refl
 
-abbrev placed_at : Resource → Parts → ℕ → Place
+abbrev placed_at : Resource → Parts → ℕ → RequestInfo
 placed_at r parts kind = record { resource = r; kind = kind; namespace = named (codes "namespace") parts; name = named (codes "name") parts }
 
 same_place : (types others : List ServedShape) → LastsIn types others → (r : Resource) (parts : Parts) → place_in others r parts ≡ place_in types r parts
@@ -152,31 +152,31 @@ same_asked types others lasts undecided = refl
 same_asked types others lasts (refused d) = refl
 same_asked types others lasts (accepted r) = same_call types others lasts r.0 r.1
 
-pub same_asks : (types others : List ServedShape) → LastsIn types others → (bytes : List ℕ) (asked : CallDecision) → Asks types bytes asked → Asks others bytes asked
-same_asks types others lasts bytes asked (head, reads, is) = (head, reads, is ∙ sym (same_asked types others lasts head))
+pub same_asks : (types others : List ServedShape) → LastsIn types others → (bytes : List ℕ) (decision : CallDecision) → Asks types bytes decision → Asks others bytes decision
+same_asks types others lasts bytes decision (head, reads, is) = (head, reads, is ∙ sym (same_asked types others lasts head))
 
-same_awaits : (types others : List ServedShape) → LastsIn types others → (front : List ℕ) (p : pendings.Pending) → Awaits types front p → Awaits others front p
-same_awaits types others lasts front p awaits = λ more. same_asks types others lasts (front ++ more) (pending_call p (p.body.items ++ more)) (awaits more)
+same_awaits : (types others : List ServedShape) → LastsIn types others → (prefix : List ℕ) (p : pendings.Pending) → Awaits types prefix p → Awaits others prefix p
+same_awaits types others lasts prefix p awaits = λ more. same_asks types others lasts (prefix ++ more) (pending_call p (p.body.items ++ more)) (awaits more)
 
 -- ---- the connections are held by both
 
-same_holds : (types others : List ServedShape) → LastsIn types others → (d : conns.Connection) (c : Connection) → Holds types d c → Holds others d c
-same_holds types others lasts (conn.Head front) c holds = holds
-same_holds types others lasts (conn.Body p) c (front, is, awaits) = (front, is, same_awaits types others lasts front p awaits)
+same_holds : (types others : List ServedShape) → LastsIn types others → (d : conns.Connection) (c : Connection) → ConnectionRepresents types d c → ConnectionRepresents others d c
+same_holds types others lasts (conn.Head prefix) c holds = holds
+same_holds types others lasts (conn.Body p) c (prefix, is, awaits) = (prefix, is, same_awaits types others lasts prefix p awaits)
 same_holds types others lasts (conn.Watch w out) c holds = holds
 same_holds types others lasts (conn.Ended out) c holds = holds
-same_holds types others lasts (conn.Over had_ended) c holds = holds
+same_holds types others lasts (conn.Closed had_ended) c holds = holds
 
-same_held : (types others : List ServedShape) → LastsIn types others → (o : Option conns.Connection) (p : Option Connection) → HoldsAt types o p → HoldsAt others o p
+same_held : (types others : List ServedShape) → LastsIn types others → (o : Option conns.Connection) (p : Option Connection) → ConnectionRepresentsAt types o p → ConnectionRepresentsAt others o p
 same_held types others lasts None None holds = holds
 same_held types others lasts None (Some c) holds = absurd holds
 same_held types others lasts (Some d) None holds = absurd holds
 same_held types others lasts (Some d) (Some c) holds = same_holds types others lasts d c holds
 
-pub others_represent : (s : State) (others : List ServedShape) (m : History) (shared shared' : Shared) (k : Kept) → LastsIn s.types others → Represents shared k s → SharedStands shared' others m
-    → Represents shared' k (record s { types = others; machine = m })
-others_represent s others m shared shared' k lasts is stands = record {
-  machine = stands;
+pub others_represent : (s : State) (others : List ServedShape) (m : History) (shared shared' : Shared) (k : Kept) → LastsIn s.types others → PartsRepresent shared k s → SharedRepresents shared' others m
+    → PartsRepresent shared' k (record s { types = others; machine = m })
+others_represent s others m shared shared' k lasts is represents = record {
+  machine = represents;
   connections = λ id. same_held s.types others lasts (found k id) (fin.get s.connections id) (is.connections id);
   open_is = is.open_is;
   highest_is = is.highest_is;
@@ -203,12 +203,12 @@ left_lawful true us others is = same_types us others is
 left_lawful false us others is = isnt_done too_few_revisions others is
 
 change_lawful : (types us others : List ServedShape) (m : History) (b : Bool) → types_may_become types us ≡ b
-    → cond b (if_left (m.current + length (changed_objects types us (standing m))) us) (Err not_lawful) ≡ Ok others → types_may_become types others ≡ true
+    → cond b (if_left (m.current + length (changed_objects types us (current_objects m))) us) (Err not_lawful) ≡ Ok others → types_may_become types others ≡ true
 change_lawful types us others m true lawful is =
-    subst (λ ts. types_may_become types ts ≡ true) (left_lawful (nat_le (m.current + length (changed_objects types us (standing m))) last_revision) us others is) lawful
+    subst (λ ts. types_may_become types ts ≡ true) (left_lawful (nat_le (m.current + length (changed_objects types us (current_objects m))) last_revision) us others is) lawful
 change_lawful types us others m false lawful is = isnt_done not_lawful others is
 
-objects_lawful : (types us others : List ServedShape) (m : History) (b : Bool) → cond b (if_lawful types m us) (Err not_types) ≡ Ok others → types_may_become types others ≡ true
+objects_lawful : (types us others : List ServedShape) (m : History) (b : Bool) → cond b (if_compatible types m us) (Err not_types) ≡ Ok others → types_may_become types others ≡ true
 objects_lawful types us others m true is = change_lawful types us others m (types_may_become types us) refl is
 objects_lawful types us others m false is = isnt_done not_types others is
 

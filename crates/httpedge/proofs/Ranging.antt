@@ -13,7 +13,7 @@ use Rattle.std.proofs.lemmas.Bool.{le-leb, leb-true}
 use Rattle.std.proofs.lemmas.Bool.Decides.{leb_tells}
 use Rattle.std.proofs.lemmas.List.Elements.{All-head, All-tail}
 use Rattle.std.proofs.lemmas.Map.Views.{All-found}
-use Rattle.httpedge.specs.Ids.{AreApart, IsAfter, IsBefore, Ranges, covers, first_with, is_in, is_within}
+use Rattle.httpedge.specs.IdViews.{AreApart, IsAfter, IsBefore, Ranges, covers, first_with, is_in, is_within}
 
 -- ---- numbers that are the same, or not
 

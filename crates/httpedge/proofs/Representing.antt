@@ -14,7 +14,7 @@ use Rattle.std.proofs.lemmas.List.{drop_all, length-drop}
 use Rattle.api_types.specs.TypesFile.{ServedShape}
 use Rattle.httpedge.specs.declared.shared.Shared.{Shared}
 use Rattle.history.specs.History.{History, compacted_to}
-use Rattle.httpedge.specs.Shares.{SharedStands}
+use Rattle.httpedge.specs.SharedViews.{SharedRepresents}
 use Rattle.revstore.specs.declared.fault.CompactFault.{CompactFault}
 use Rattle.revstore.specs.declared.fault.CompactFault.TheVariants as broken
 use Rattle.revtable.specs.declared.fault.Fault.{Fault as TheirFault}
@@ -28,17 +28,17 @@ use Rattle.httpedge.specs.declared.event.Change.TheVariants as change
 use Rattle.httpedge.specs.declared.fault.HubFault.{HubFault}
 use Rattle.httpedge.specs.declared.out.Out.{Out}
 use Rattle.httpedge.specs.declared.watching.Watch.{Watch as TheWatch}
-use Rattle.httpedge.specs.Changes.{Changes, Makes, Receives, event_on, takes_memory_on}
-use Rattle.httpedge.specs.Connections.{Connection, Connections, Standing, waiting, watching, ended, gone, has_ended, is_new, is_open, is_waiting, is_watching, left_out, open_on, out_of, with_standing, with_taken}
+use Rattle.httpedge.specs.ChangeViews.{Changes, Makes, Receives, event_on, takes_memory_on}
+use Rattle.httpedge.specs.Connections.{Connection, Connections, Phase, waiting, watching, ended, gone, has_ended, is_new, is_open, is_waiting, is_watching, left_out, open_on, out_of, with_phase, with_taken}
 use Rattle.requests.specs.Decision.{undecided}
-use Rattle.httpedge.specs.Held.{BecomesAt, Holds, HoldsAt, IsAt, IsFresh, IsSame, Opens, PutAt, Represents, found, has_ended_in, held_or, is_above, is_open_in, is_waiting_in, is_watching_in, left, out_in, over_by}
-use Rattle.httpedge.specs.Faults.{hub_fault_of}
-use Rattle.httpedge.specs.HubSeen.{Handles, IsIn, Outcome, outcome_of, refusal_in}
-use Rattle.httpedge.specs.HubSeen as outcome
-use Rattle.httpedge.specs.Ids.{is_in}
+use Rattle.httpedge.specs.ConnectionViews.{BecomesAt, ConnectionRepresents, ConnectionRepresentsAt, IsAt, IsFresh, IsSame, Opens, PutAt, PartsRepresent, found, has_ended_in, held_or, is_above, is_open_in, is_waiting_in, is_watching_in, left, out_in, over_by}
+use Rattle.httpedge.specs.FaultViews.{hub_fault_of}
+use Rattle.httpedge.specs.HubViews.{StepsOrRefuses, HubRepresents, Outcome, outcome_of, refusal_in}
+use Rattle.httpedge.specs.HubViews as outcome
+use Rattle.httpedge.specs.IdViews.{is_in}
 use Rattle.httpedge.specs.declared.hub.Hub.{Hub}
 use Rattle.httpedge.specs.Runs.{Steps}
-use Rattle.httpedge.specs.Steps.{Event, Refusal, State, id_not_above, unknown_id, no_lines, compaction_refused, opens, comes, goes, pumps, compacts, after_turn, by_connection, dead, machine_after, opening, received, refusal, start, unless_refused, with_bytes_taken, with_connection, with_connections, with_machine, with_turn, Starves}
+use Rattle.httpedge.specs.Steps.{Event, Refusal, State, id_not_above, unknown_id, no_lines, compaction_refused, opens, comes, goes, pumps, compacts, after_turn, by_connection, killed, machine_after, opening, received, refusal, start, unless_refused, with_bytes_taken, with_connection, with_connections, with_machine, with_turn, RunsOutOfMemory}
 use Rattle.httpedge.specs.Watches.{Turn, Watch, pumped}
 use Rattle.httpedge.proofs.Connected.{Entries, ids, new_put, new_still, tied_same, unknown}
 use Rattle.httpedge.proofs.Outcomes.{ComesBy, ComesOn}
@@ -50,87 +50,87 @@ Found = ℕ → Option conns.Connection
 false_true : false ≡ true → ⊥
 false_true e = cc
 
-pub closed_waits : (st : Standing) → is_open st ≡ false → is_waiting st ≡ false
-closed_waits (waiting front) is = absurd (false_true (sym is))
+pub closed_waits : (st : Phase) → is_open st ≡ false → is_waiting st ≡ false
+closed_waits (waiting prefix) is = absurd (false_true (sym is))
 closed_waits (watching w) is = absurd (false_true (sym is))
 closed_waits ended is = refl
 closed_waits (gone had_ended) is = refl
 
-pub closed_watches : (st : Standing) → is_open st ≡ false → is_watching st ≡ false
-closed_watches (waiting front) is = absurd (false_true (sym is))
+pub closed_watches : (st : Phase) → is_open st ≡ false → is_watching st ≡ false
+closed_watches (waiting prefix) is = absurd (false_true (sym is))
 closed_watches (watching w) is = absurd (false_true (sym is))
 closed_watches ended is = refl
 closed_watches (gone had_ended) is = refl
 
 -- ---- one connection
 
-pub same_open : (types : List ServedShape) (d : conns.Connection) (c : Connection) → Holds types d c → is_open_in d ≡ is_open c.standing
-same_open types (conn.Head front) c is = sym (ap (λ (x : Connection). is_open x.standing) is)
-same_open types (conn.Body p) c (front, is, awaits) = sym (ap (λ (x : Connection). is_open x.standing) is)
+pub same_open : (types : List ServedShape) (d : conns.Connection) (c : Connection) → ConnectionRepresents types d c → is_open_in d ≡ is_open c.phase
+same_open types (conn.Head prefix) c is = sym (ap (λ (x : Connection). is_open x.phase) is)
+same_open types (conn.Body p) c (prefix, is, awaits) = sym (ap (λ (x : Connection). is_open x.phase) is)
 same_open types (conn.Watch w out) c (is, rest, low) = sym (ap is_open is)
 same_open types (conn.Ended out) c (is, rest) = sym (ap is_open is)
-same_open types (conn.Over had_ended) c (closed, had, none) = sym closed
+same_open types (conn.Closed had_ended) c (closed, had, none) = sym closed
 
-pub same_waiting : (types : List ServedShape) (d : conns.Connection) (c : Connection) → Holds types d c → is_waiting_in d ≡ is_waiting c.standing
-same_waiting types (conn.Head front) c is = sym (ap (λ (x : Connection). is_waiting x.standing) is)
-same_waiting types (conn.Body p) c (front, is, awaits) = sym (ap (λ (x : Connection). is_waiting x.standing) is)
+pub same_waiting : (types : List ServedShape) (d : conns.Connection) (c : Connection) → ConnectionRepresents types d c → is_waiting_in d ≡ is_waiting c.phase
+same_waiting types (conn.Head prefix) c is = sym (ap (λ (x : Connection). is_waiting x.phase) is)
+same_waiting types (conn.Body p) c (prefix, is, awaits) = sym (ap (λ (x : Connection). is_waiting x.phase) is)
 same_waiting types (conn.Watch w out) c (is, rest, low) = sym (ap is_waiting is)
 same_waiting types (conn.Ended out) c (is, rest) = sym (ap is_waiting is)
-same_waiting types (conn.Over had_ended) c (closed, had, none) = sym (closed_waits c.standing closed)
+same_waiting types (conn.Closed had_ended) c (closed, had, none) = sym (closed_waits c.phase closed)
 
-pub same_watching : (types : List ServedShape) (d : conns.Connection) (c : Connection) → Holds types d c → is_watching_in d ≡ is_watching c.standing
-same_watching types (conn.Head front) c is = sym (ap (λ (x : Connection). is_watching x.standing) is)
-same_watching types (conn.Body p) c (front, is, awaits) = sym (ap (λ (x : Connection). is_watching x.standing) is)
+pub same_watching : (types : List ServedShape) (d : conns.Connection) (c : Connection) → ConnectionRepresents types d c → is_watching_in d ≡ is_watching c.phase
+same_watching types (conn.Head prefix) c is = sym (ap (λ (x : Connection). is_watching x.phase) is)
+same_watching types (conn.Body p) c (prefix, is, awaits) = sym (ap (λ (x : Connection). is_watching x.phase) is)
 same_watching types (conn.Watch w out) c (is, rest, low) = sym (ap is_watching is)
 same_watching types (conn.Ended out) c (is, rest) = sym (ap is_watching is)
-same_watching types (conn.Over had_ended) c (closed, had, none) = sym (closed_watches c.standing closed)
+same_watching types (conn.Closed had_ended) c (closed, had, none) = sym (closed_watches c.phase closed)
 
-pub same_ended : (types : List ServedShape) (d : conns.Connection) (c : Connection) → Holds types d c → has_ended_in d ≡ has_ended c.standing
-same_ended types (conn.Head front) c is = sym (ap (λ (x : Connection). has_ended x.standing) is)
-same_ended types (conn.Body p) c (front, is, awaits) = sym (ap (λ (x : Connection). has_ended x.standing) is)
+pub same_ended : (types : List ServedShape) (d : conns.Connection) (c : Connection) → ConnectionRepresents types d c → has_ended_in d ≡ has_ended c.phase
+same_ended types (conn.Head prefix) c is = sym (ap (λ (x : Connection). has_ended x.phase) is)
+same_ended types (conn.Body p) c (prefix, is, awaits) = sym (ap (λ (x : Connection). has_ended x.phase) is)
 same_ended types (conn.Watch w out) c (is, rest, low) = sym (ap has_ended is)
 same_ended types (conn.Ended out) c (is, rest) = sym (ap has_ended is)
-same_ended types (conn.Over had_ended) c (closed, had, none) = sym had
+same_ended types (conn.Closed had_ended) c (closed, had, none) = sym had
 
-pub same_out : (types : List ServedShape) (d : conns.Connection) (c : Connection) → Holds types d c → out_in d ≡ out_of c
-same_out types (conn.Head front) c is = sym (ap out_of is)
-same_out types (conn.Body p) c (front, is, awaits) = sym (ap out_of is)
-same_out types (conn.Watch w out) c (is, rest, low) = sym rest ∙ sym (ap (λ (st : Standing). left_out st (drop c.taken c.written)) is)
-same_out types (conn.Ended out) c (is, rest) = sym rest ∙ sym (ap (λ (st : Standing). left_out st (drop c.taken c.written)) is)
-same_out types (conn.Over had_ended) c (closed, had, none) = sym none
+pub same_out : (types : List ServedShape) (d : conns.Connection) (c : Connection) → ConnectionRepresents types d c → out_in d ≡ out_of c
+same_out types (conn.Head prefix) c is = sym (ap out_of is)
+same_out types (conn.Body p) c (prefix, is, awaits) = sym (ap out_of is)
+same_out types (conn.Watch w out) c (is, rest, low) = sym rest ∙ sym (ap (λ (st : Phase). left_out st (drop c.taken c.written)) is)
+same_out types (conn.Ended out) c (is, rest) = sym rest ∙ sym (ap (λ (st : Phase). left_out st (drop c.taken c.written)) is)
+same_out types (conn.Closed had_ended) c (closed, had, none) = sym none
 
 some_of : {A : Type 0} {x y : A} → Some x ≡ Some y → x ≡ y
 some_of e = cc
 
 abbrev pub open_in : Option Connection → Bool
-open_in o = unwrap_or (option_map (λ c. is_open c.standing) o) false
+open_in o = unwrap_or (option_map (λ c. is_open c.phase) o) false
 
 -- ---- the connection of an id
 
-pub none_held : (types : List ServedShape) (o : Option conns.Connection) (p : Option Connection) → HoldsAt types o p → o ≡ None → p ≡ None
+pub none_held : (types : List ServedShape) (o : Option conns.Connection) (p : Option Connection) → ConnectionRepresentsAt types o p → o ≡ None → p ≡ None
 none_held types None None holds is = refl
 none_held types None (Some c) holds is = absurd holds
 none_held types (Some d) p holds is = absurd cc
 
-pub some_held : (types : List ServedShape) (o : Option conns.Connection) (p : Option Connection) (d : conns.Connection) → HoldsAt types o p → o ≡ Some d
-    → (c : Connection) × (p ≡ Some c) × Holds types d c
+pub some_held : (types : List ServedShape) (o : Option conns.Connection) (p : Option Connection) (d : conns.Connection) → ConnectionRepresentsAt types o p → o ≡ Some d
+    → (c : Connection) × (p ≡ Some c) × ConnectionRepresents types d c
 some_held types None p d holds is = absurd cc
 some_held types (Some e) None d holds is = absurd holds
-some_held types (Some e) (Some c) d holds is = (c, refl, subst (λ (x : conns.Connection). Holds types x c) (some_of is) holds)
+some_held types (Some e) (Some c) d holds is = (c, refl, subst (λ (x : conns.Connection). ConnectionRepresents types x c) (some_of is) holds)
 
-holds_by : (types : List ServedShape) (b : Bool) (d : conns.Connection) (c : Connection) (o : Option conns.Connection) (p : Option Connection) → Holds types d c → HoldsAt types o p
-    → HoldsAt types (cond b (Some d) o) (cond b (Some c) p)
+holds_by : (types : List ServedShape) (b : Bool) (d : conns.Connection) (c : Connection) (o : Option conns.Connection) (p : Option Connection) → ConnectionRepresents types d c → ConnectionRepresentsAt types o p
+    → ConnectionRepresentsAt types (cond b (Some d) o) (cond b (Some c) p)
 holds_by types true d c o p one other = one
 holds_by types false d c o p one other = other
 
 pub held_put : (types : List ServedShape) (old new : Found) (all : Connections) (id : ℕ) (d : conns.Connection) (c : Connection)
-    → ((q : ℕ) → HoldsAt types (old q) (fin.get all q)) → PutAt id d old new → Holds types d c → (q : ℕ) → HoldsAt types (new q) (fin.get (fin.insert all id c) q)
+    → ((q : ℕ) → ConnectionRepresentsAt types (old q) (fin.get all q)) → PutAt id d old new → ConnectionRepresents types d c → (q : ℕ) → ConnectionRepresentsAt types (new q) (fin.get (fin.insert all id c) q)
 held_put types old new all id d c held put holds q =
     let b = eq_by_cmp nat_cmp id q in
     let seen : fin.get (fin.insert all id c) q ≡ cond b (Some c) (fin.get all q) =
     fin.get-insert nat_cmp_total all id c q ∙ ap (λ (t : Bool). cond t (Some c) (fin.get all q)) ((eq_by_cmp_equiv nat_cmp_total).symm q id) in
-    subst (λ (o : Option conns.Connection). HoldsAt types o (fin.get (fin.insert all id c) q)) (sym (put q))
-    (subst (λ (p : Option Connection). HoldsAt types (cond b (Some d) (old q)) p) (sym seen)
+    subst (λ (o : Option conns.Connection). ConnectionRepresentsAt types o (fin.get (fin.insert all id c) q)) (sym (put q))
+    (subst (λ (p : Option Connection). ConnectionRepresentsAt types (cond b (Some d) (old q)) p) (sym seen)
     (holds_by types b d c (old q) (fin.get all q) holds (held q)))
 
 there : (b : Bool) (c : Connection) (o : Option Connection) → (b ≡ true → o ≡ Some c) → cond b (Some c) o ≡ o
@@ -143,27 +143,27 @@ put_same all id c got = fin.same_map nat_cmp_total fin.nat_cmp-IsAntisymmetric _
     fin.get-insert nat_cmp_total all id c q
     ∙ there (eq_by_cmp nat_cmp q id) c (fin.get all q) (λ e. ap (fin.get all) (tied_same q id e) ∙ got))
 
-pub ended_is : (types : List ServedShape) (o : Option conns.Connection) (p : Option Connection) → HoldsAt types o p
-    → unwrap_or (option_map has_ended_in o) false ≡ unwrap_or (option_map (λ c. has_ended c.standing) p) false
+pub ended_is : (types : List ServedShape) (o : Option conns.Connection) (p : Option Connection) → ConnectionRepresentsAt types o p
+    → unwrap_or (option_map has_ended_in o) false ≡ unwrap_or (option_map (λ c. has_ended c.phase) p) false
 ended_is types None None holds = refl
 ended_is types None (Some c) holds = absurd holds
 ended_is types (Some d) None holds = absurd holds
 ended_is types (Some d) (Some c) holds = same_ended types d c holds
 
-pub waiting_is : (types : List ServedShape) (o : Option conns.Connection) (p : Option Connection) → HoldsAt types o p
-    → unwrap_or (option_map is_waiting_in o) false ≡ unwrap_or (option_map (λ c. is_waiting c.standing) p) false
+pub waiting_is : (types : List ServedShape) (o : Option conns.Connection) (p : Option Connection) → ConnectionRepresentsAt types o p
+    → unwrap_or (option_map is_waiting_in o) false ≡ unwrap_or (option_map (λ c. is_waiting c.phase) p) false
 waiting_is types None None holds = refl
 waiting_is types None (Some c) holds = absurd holds
 waiting_is types (Some d) None holds = absurd holds
 waiting_is types (Some d) (Some c) holds = same_waiting types d c holds
 
-pub out_is : (types : List ServedShape) (o : Option conns.Connection) (p : Option Connection) → HoldsAt types o p → unwrap_or (option_map out_in o) [] ≡ unwrap_or (option_map out_of p) []
+pub out_is : (types : List ServedShape) (o : Option conns.Connection) (p : Option Connection) → ConnectionRepresentsAt types o p → unwrap_or (option_map out_in o) [] ≡ unwrap_or (option_map out_of p) []
 out_is types None None holds = refl
 out_is types None (Some c) holds = absurd holds
 out_is types (Some d) None holds = absurd holds
 out_is types (Some d) (Some c) holds = same_out types d c holds
 
-pub known_is : (types : List ServedShape) (o : Option conns.Connection) (p : Option Connection) → HoldsAt types o p → is_some o ≡ is_some p
+pub known_is : (types : List ServedShape) (o : Option conns.Connection) (p : Option Connection) → ConnectionRepresentsAt types o p → is_some o ≡ is_some p
 known_is types None None holds = refl
 known_is types None (Some c) holds = absurd holds
 known_is types (Some d) None holds = absurd holds
@@ -178,12 +178,12 @@ no_entry (x ∷ es) e = absurd (omega (arith, e))
 no_entries : fin.entries ((fin.empty {X = Connection} {R = nat_cmp})) ≡ []
 no_entries = no_entry (fin.entries (fin.empty {X = Connection} {R = nat_cmp})) (sym (fin.len-entries (fin.empty {X = Connection} {R = nat_cmp})) ∙ fin.len-empty nat_cmp Connection)
 
-pub start_in : (types : List ServedShape) (m : History) (shared : Shared) (k : Kept) → SharedStands shared types m → k.held.entries ≡ [] → k.open_ids.keys ≡ [] → ((q : ℕ) → is_in k.ended.ranges q ≡ false)
-    → ((q : ℕ) → is_in k.cut.ranges q ≡ false) → k.highest ≡ None → Represents shared k (start types m)
-start_in types m shared k stands none shut had cut first = record {
-  machine = stands;
-  connections = λ q. subst (λ (o : Option conns.Connection). HoldsAt types o (fin.get (fin.empty {X = Connection} {R = nat_cmp}) q)) (sym (nothing q))
-      (subst (λ (p : Option Connection). HoldsAt types None p) (sym (fin.get-empty nat_cmp q)) tt);
+pub start_in : (types : List ServedShape) (m : History) (shared : Shared) (k : Kept) → SharedRepresents shared types m → k.held.entries ≡ [] → k.open_ids.keys ≡ [] → ((q : ℕ) → is_in k.ended.ranges q ≡ false)
+    → ((q : ℕ) → is_in k.cut.ranges q ≡ false) → k.highest ≡ None → PartsRepresent shared k (start types m)
+start_in types m shared k represents none shut had cut first = record {
+  machine = represents;
+  connections = λ q. subst (λ (o : Option conns.Connection). ConnectionRepresentsAt types o (fin.get (fin.empty {X = Connection} {R = nat_cmp}) q)) (sym (nothing q))
+      (subst (λ (p : Option Connection). ConnectionRepresentsAt types None p) (sym (fin.get-empty nat_cmp q)) tt);
   open_is = λ q. ap (list_any (is_at (nat_cmp q))) shut ∙ sym (ap open_in (fin.get-empty {X = Connection} nat_cmp q));
   highest_is = λ q. ap (λ (es : Entries). list_all (λ known. nat_lt known q) (ids es)) no_entries ∙ sym (ap (λ (h : Option ℕ). is_above h q) first);
   apart = λ q is. had q;
@@ -194,7 +194,7 @@ start_in types m shared k stands none shut had cut first = record {
 
 -- the code holds a state to which the event leads
 abbrev pub Done : State → Event → Shared → Kept → Type 0
-Done s e shared k = (t : State) × Steps s e t × Represents shared k t × (t.last_tick ≡ s.last_tick)
+Done s e shared k = (t : State) × Steps s e t × PartsRepresent shared k t × (t.last_tick ≡ s.last_tick)
 
 -- ---- an opening
 
@@ -209,34 +209,34 @@ first_alone : (a b : Bool) → (a ≡ true → b ≡ true) → a && b ≡ a
 first_alone true b h = h refl
 first_alone false b h = refl
 
-held_none : (types : List ServedShape) (o : Option conns.Connection) (p : Option Connection) → HoldsAt types o p → p ≡ None → o ≡ None
+held_none : (types : List ServedShape) (o : Option conns.Connection) (p : Option Connection) → ConnectionRepresentsAt types o p → p ≡ None → o ≡ None
 held_none types None p holds is = refl
 held_none types (Some d) None holds is = absurd holds
 held_none types (Some d) (Some c) holds is = absurd cc
 
 -- an id above the highest is that of no connection
-pub opens_fresh : (s : State) (id : ℕ) (shared : Shared) (old : Kept) → Represents shared old s → is_above old.highest id ≡ true → IsFresh id old
+pub opens_fresh : (s : State) (id : ℕ) (shared : Shared) (old : Kept) → PartsRepresent shared old s → is_above old.highest id ≡ true → IsFresh id old
 opens_fresh s id shared old held above =
     let none : fin.get s.connections id ≡ None = unknown s.connections id (fin.get s.connections id) refl (held.highest_is id ∙ above) in
     (held_none s.types (found old id) (fin.get s.connections id) (held.connections id) none, held.open_is id ∙ ap open_in none, held.apart)
 
-put_open : (b x y : Bool) (c : Connection) (o : Option Connection) → x ≡ is_open c.standing → y ≡ open_in o → cond b x y ≡ open_in (cond b (Some c) o)
+put_open : (b x y : Bool) (c : Connection) (o : Option Connection) → x ≡ is_open c.phase → y ≡ open_in o → cond b x y ≡ open_in (cond b (Some c) o)
 put_open true x y c o one other = one
 put_open false x y c o one other = other
 
-open_put : (all : Connections) (id q : ℕ) (c : Connection) (x y : Bool) → x ≡ is_open c.standing → y ≡ open_on all q → cond (eq_by_cmp nat_cmp id q) x y ≡ open_on (fin.insert all id c) q
+open_put : (all : Connections) (id q : ℕ) (c : Connection) (x y : Bool) → x ≡ is_open c.phase → y ≡ open_on all q → cond (eq_by_cmp nat_cmp id q) x y ≡ open_on (fin.insert all id c) q
 open_put all id q c x y one other =
     put_open (eq_by_cmp nat_cmp id q) x y c (fin.get all q) one other
     ∙ sym (ap open_in (fin.get-insert nat_cmp_total all id c q ∙ ap (λ (t : Bool). cond t (Some c) (fin.get all q)) ((eq_by_cmp_equiv nat_cmp_total).symm q id)))
 
-pub opens_refused : (s : State) (shared : Shared) (k : Kept) (id : ℕ) → Represents shared k s → is_above k.highest id ≡ false → refusal s (opens id) ≡ Some id_not_above
+pub opens_refused : (s : State) (shared : Shared) (k : Kept) (id : ℕ) → PartsRepresent shared k s → is_above k.highest id ≡ false → refusal s (opens id) ≡ Some id_not_above
 opens_refused s shared k id is above = ap (λ (b : Bool). cond b None (Some id_not_above)) (is.highest_is id ∙ above)
 
-pub opens_unrefused : (s : State) (shared : Shared) (k : Kept) (id : ℕ) → Represents shared k s → is_above k.highest id ≡ true → refusal s (opens id) ≡ None
+pub opens_unrefused : (s : State) (shared : Shared) (k : Kept) (id : ℕ) → PartsRepresent shared k s → is_above k.highest id ≡ true → refusal s (opens id) ≡ None
 opens_unrefused s shared k id is above = ap (λ (b : Bool). cond b None (Some id_not_above)) (is.highest_is id ∙ above)
 
-pub opens_well : (s : State) (id : ℕ) (shared : Shared) (old new : Kept) (d : conns.Connection) → Represents shared old s
-    → is_above old.highest id ≡ true → Holds s.types d (opening s.connections) → Opens id d old new → Done s (opens id) shared new
+pub opens_well : (s : State) (id : ℕ) (shared : Shared) (old new : Kept) (d : conns.Connection) → PartsRepresent shared old s
+    → is_above old.highest id ≡ true → ConnectionRepresents s.types d (opening s.connections) → Opens id d old new → Done s (opens id) shared new
 opens_well s id shared old new d held above holds opened =
     let c = opening s.connections in
     let isnew : is_new s.connections id ≡ true = held.highest_is id ∙ above in
@@ -254,10 +254,10 @@ opens_well s id shared old new d held above holds opened =
       refl,
     )
 
-pub same_in : (s : State) (shared : Shared) (old new : Kept) → Represents shared old s → IsSame old new → Represents shared new s
+pub same_in : (s : State) (shared : Shared) (old new : Kept) → PartsRepresent shared old s → IsSame old new → PartsRepresent shared new s
 same_in s shared old new held same = record {
   machine = held.machine;
-  connections = λ q. subst (λ (o : Option conns.Connection). HoldsAt s.types o (fin.get s.connections q)) (sym (same.found_is q)) (held.connections q);
+  connections = λ q. subst (λ (o : Option conns.Connection). ConnectionRepresentsAt s.types o (fin.get s.connections q)) (sym (same.found_is q)) (held.connections q);
   open_is = λ q. same.open_is q ∙ held.open_is q;
   highest_is = λ q. held.highest_is q ∙ sym (ap (λ (h : Option ℕ). is_above h q) same.highest);
   apart = same.apart;
@@ -265,21 +265,21 @@ same_in s shared old new held same = record {
 
 -- ---- what becomes of one connection
 
-pub moves : (s : State) (m : History) (id : ℕ) (still : Bool) (shared shared' : Shared) (old new : Kept) (c c' : Connection) → Represents shared old s → SharedStands shared' s.types m → fin.get s.connections id ≡ Some c
-    → BecomesAt s.types still c' id old new → is_open c.standing && still ≡ is_open c'.standing → Represents shared' new (with_connection (with_machine s m) id c')
+pub moves : (s : State) (m : History) (id : ℕ) (still : Bool) (shared shared' : Shared) (old new : Kept) (c c' : Connection) → PartsRepresent shared old s → SharedRepresents shared' s.types m → fin.get s.connections id ≡ Some c
+    → BecomesAt s.types still c' id old new → is_open c.phase && still ≡ is_open c'.phase → PartsRepresent shared' new (with_connection (with_machine s m) id c')
 moves s m id still shared shared' old new c c' held serves got becomes stays = record {
   machine = serves;
   connections = held_put s.types (found old) (found new) s.connections id becomes.one c' held.connections becomes.put becomes.holds;
   open_is = λ q. becomes.open_is q ∙ go q (eq_by_cmp nat_cmp id q) refl
-      ∙ open_put s.connections id q c' (is_open c.standing && still) (contains nat_cmp old.open_ids q) stays (held.open_is q);
+      ∙ open_put s.connections id q c' (is_open c.phase && still) (contains nat_cmp old.open_ids q) stays (held.open_is q);
   highest_is = λ q. new_still s.connections id q c c' got ∙ held.highest_is q ∙ sym (ap (λ (h : Option ℕ). is_above h q) becomes.highest);
   apart = becomes.apart;
 }
   where
-    was : contains nat_cmp old.open_ids id ≡ is_open c.standing
+    was : contains nat_cmp old.open_ids id ≡ is_open c.phase
     was = held.open_is id ∙ ap open_in got
 
-    go : (q : ℕ) (b : Bool) → eq_by_cmp nat_cmp id q ≡ b → cond b (contains nat_cmp old.open_ids q && still) (contains nat_cmp old.open_ids q) ≡ cond b (is_open c.standing && still) (contains nat_cmp old.open_ids q)
+    go : (q : ℕ) (b : Bool) → eq_by_cmp nat_cmp id q ≡ b → cond b (contains nat_cmp old.open_ids q && still) (contains nat_cmp old.open_ids q) ≡ cond b (is_open c.phase && still) (contains nat_cmp old.open_ids q)
     go q true e = ap (λ (x : Bool). x && still) (ap (contains nat_cmp old.open_ids) (sym (tied_same id q e)) ∙ was)
     go q false e = refl
 
@@ -297,62 +297,62 @@ still_open false true h = h refl
 still_open false false h = refl
 
 -- it stays as it is
-idles : (s : State) (id : ℕ) (shared shared' : Shared) (old new : Kept) (c c' : Connection) → Represents shared old s → SharedStands shared' s.types s.machine → fin.get s.connections id ≡ Some c → c' ≡ c
-    → BecomesAt s.types (is_open c'.standing) c' id old new → Represents shared' new s
+idles : (s : State) (id : ℕ) (shared shared' : Shared) (old new : Kept) (c c' : Connection) → PartsRepresent shared old s → SharedRepresents shared' s.types s.machine → fin.get s.connections id ≡ Some c → c' ≡ c
+    → BecomesAt s.types (is_open c'.phase) c' id old new → PartsRepresent shared' new s
 idles s id shared shared' old new c c' held serves got same becomes =
-    subst (λ (all : Connections). Represents shared' new (with_connections s all)) (ap (fin.insert s.connections id) same ∙ put_same s.connections id c got)
-    (moves s s.machine id (is_open c'.standing) shared shared' old new c c' held serves got becomes
-    (ap (λ (x : Connection). is_open x.standing && is_open c'.standing) (sym same) ∙ same_and (is_open c'.standing)))
+    subst (λ (all : Connections). PartsRepresent shared' new (with_connections s all)) (ap (fin.insert s.connections id) same ∙ put_same s.connections id c got)
+    (moves s s.machine id (is_open c'.phase) shared shared' old new c c' held serves got becomes
+    (ap (λ (x : Connection). is_open x.phase && is_open c'.phase) (sym same) ∙ same_and (is_open c'.phase)))
 
 -- ---- bytes that come
 
-steps_on : (s t : State) (id : ℕ) (bytes : List ℕ) (c : Connection) (st : Standing) → fin.get s.connections id ≡ Some c → c.standing ≡ st → ComesOn s id c st bytes t → Steps s (comes id bytes) t
-steps_on s t id bytes c st got stands came =
-    subst (λ (o : Option Connection). ComesBy s id o bytes t) (sym got) (subst (λ (x : Standing). ComesOn s id c x bytes t) (sym stands) came)
+steps_on : (s t : State) (id : ℕ) (bytes : List ℕ) (c : Connection) (st : Phase) → fin.get s.connections id ≡ Some c → c.phase ≡ st → ComesOn s id c st bytes t → Steps s (comes id bytes) t
+steps_on s t id bytes c st got represents came =
+    subst (λ (o : Option Connection). ComesBy s id o bytes t) (sym got) (subst (λ (x : Phase). ComesOn s id c x bytes t) (sym represents) came)
 
-comes_done : (s : State) (id : ℕ) (bytes : List ℕ) (shared shared' : Shared) (old new : Kept) (c c' : Connection) (st : Standing) → Represents shared old s → fin.get s.connections id ≡ Some c → c.standing ≡ st
-    → Receives s.types s.machine s.last_tick c st bytes c' shared' → BecomesAt s.types (is_open c'.standing) c' id old new → Done s (comes id bytes) shared' new
-comes_done s id bytes shared shared' old new c c' (waiting front) held got stands (asked, asks, is, serves) becomes =
-    let m = machine_after s.types s.machine asked in (
+comes_done : (s : State) (id : ℕ) (bytes : List ℕ) (shared shared' : Shared) (old new : Kept) (c c' : Connection) (st : Phase) → PartsRepresent shared old s → fin.get s.connections id ≡ Some c → c.phase ≡ st
+    → Receives s.types s.machine s.last_tick c st bytes c' shared' → BecomesAt s.types (is_open c'.phase) c' id old new → Done s (comes id bytes) shared' new
+comes_done s id bytes shared shared' old new c c' (waiting prefix) held got represents (decision, asks, is, serves) becomes =
+    let m = machine_after s.types s.machine decision in (
       with_connection (with_machine s m) id c',
       subst (λ (x : Connection). Steps s (comes id bytes) (with_connection (with_machine s m) id x)) (sym is)
-          (steps_on s (received s id c (front ++ bytes) asked) id bytes c (waiting front) got stands (asked, asks, refl)),
-      moves s m id (is_open c'.standing) shared shared' old new c c' held serves got becomes (ap (λ (x : Standing). is_open x && is_open c'.standing) stands),
+          (steps_on s (received s id c (prefix ++ bytes) decision) id bytes c (waiting prefix) got represents (decision, asks, refl)),
+      moves s m id (is_open c'.phase) shared shared' old new c c' held serves got becomes (ap (λ (x : Phase). is_open x && is_open c'.phase) represents),
       refl,
     )
-comes_done s id bytes shared shared' old new c c' (watching w) held got stands (same, serves) becomes =
-    (s, steps_on s s id bytes c (watching w) got stands (undecided, refl, refl), idles s id shared shared' old new c c' held serves got same becomes, refl)
-comes_done s id bytes shared shared' old new c c' ended held got stands (same, serves) becomes =
-    (s, steps_on s s id bytes c ended got stands (undecided, refl, refl), idles s id shared shared' old new c c' held serves got same becomes, refl)
-comes_done s id bytes shared shared' old new c c' (gone had_ended) held got stands (same, serves) becomes =
-    (s, steps_on s s id bytes c (gone had_ended) got stands (undecided, refl, refl), idles s id shared shared' old new c c' held serves got same becomes, refl)
+comes_done s id bytes shared shared' old new c c' (watching w) held got represents (same, serves) becomes =
+    (s, steps_on s s id bytes c (watching w) got represents (undecided, refl, refl), idles s id shared shared' old new c c' held serves got same becomes, refl)
+comes_done s id bytes shared shared' old new c c' ended held got represents (same, serves) becomes =
+    (s, steps_on s s id bytes c ended got represents (undecided, refl, refl), idles s id shared shared' old new c c' held serves got same becomes, refl)
+comes_done s id bytes shared shared' old new c c' (gone had_ended) held got represents (same, serves) becomes =
+    (s, steps_on s s id bytes c (gone had_ended) got represents (undecided, refl, refl), idles s id shared shared' old new c c' held serves got same becomes, refl)
 
 -- ---- a peer that goes, and a pump
 
-goes_done : (s : State) (id : ℕ) (shared shared' : Shared) (old new : Kept) (c c' : Connection) → Represents shared old s → fin.get s.connections id ≡ Some c
-    → c' ≡ with_standing c (gone (has_ended c.standing)) → SharedStands shared' s.types s.machine → BecomesAt s.types (is_open c'.standing) c' id old new → Done s (goes id) shared' new
+goes_done : (s : State) (id : ℕ) (shared shared' : Shared) (old new : Kept) (c c' : Connection) → PartsRepresent shared old s → fin.get s.connections id ≡ Some c
+    → c' ≡ with_phase c (gone (has_ended c.phase)) → SharedRepresents shared' s.types s.machine → BecomesAt s.types (is_open c'.phase) c' id old new → Done s (goes id) shared' new
 goes_done s id shared shared' old new c c' held got is serves becomes = (
   with_connection s id c',
   (
     undecided,
     refl,
     ap (with_connection s id) is
-        ∙ sym (ap (λ (o : Option Connection). unless_refused (cond (is_some o) None (Some unknown_id)) s (by_connection s o (λ x. with_connection s id (with_standing x (gone (has_ended x.standing)))))) got),
+        ∙ sym (ap (λ (o : Option Connection). unless_refused (cond (is_some o) None (Some unknown_id)) s (by_connection s o (λ x. with_connection s id (with_phase x (gone (has_ended x.phase)))))) got),
   ),
-  moves s s.machine id (is_open c'.standing) shared shared' old new c c' held serves got becomes
-      (still_open (is_open c.standing) (is_open c'.standing) (λ now. absurd (false_true (sym (ap (λ (x : Connection). is_open x.standing) is) ∙ now)))),
+  moves s s.machine id (is_open c'.phase) shared shared' old new c c' held serves got becomes
+      (still_open (is_open c.phase) (is_open c'.phase) (λ now. absurd (false_true (sym (ap (λ (x : Connection). is_open x.phase) is) ∙ now)))),
   refl,
 )
 
 -- a turn opens nothing
-turn_opens : (turn : Watch → Turn) (c : Connection) (st : Standing) → c.standing ≡ st → is_open (after_turn turn c st).standing ≡ true → is_open c.standing ≡ true
-turn_opens turn c (waiting front) stands now = now
-turn_opens turn c (watching w) stands now = ap is_open stands
-turn_opens turn c ended stands now = now
-turn_opens turn c (gone had_ended) stands now = now
+turn_opens : (turn : Watch → Turn) (c : Connection) (st : Phase) → c.phase ≡ st → is_open (after_turn turn c st).phase ≡ true → is_open c.phase ≡ true
+turn_opens turn c (waiting prefix) represents now = now
+turn_opens turn c (watching w) represents now = ap is_open represents
+turn_opens turn c ended represents now = now
+turn_opens turn c (gone had_ended) represents now = now
 
-pumps_done : (s : State) (id max : ℕ) (shared shared' : Shared) (old new : Kept) (c c' : Connection) → Represents shared old s → fin.get s.connections id ≡ Some c → (max == 0) ≡ false
-    → c' ≡ with_turn (pumped s.machine max) c → SharedStands shared' s.types s.machine → BecomesAt s.types (is_open c'.standing) c' id old new → Done s (pumps id max) shared' new
+pumps_done : (s : State) (id max : ℕ) (shared shared' : Shared) (old new : Kept) (c c' : Connection) → PartsRepresent shared old s → fin.get s.connections id ≡ Some c → (max == 0) ≡ false
+    → c' ≡ with_turn (pumped s.machine max) c → SharedRepresents shared' s.types s.machine → BecomesAt s.types (is_open c'.phase) c' id old new → Done s (pumps id max) shared' new
 pumps_done s id max shared shared' old new c c' held got some is serves becomes =
     let turn = pumped s.machine max in (
       with_connection s id c',
@@ -362,8 +362,8 @@ pumps_done s id max shared shared' old new c c' held got some is serves becomes 
         ap (with_connection s id) is
             ∙ sym (ap₂ (λ (o : Option Connection) (b : Bool). unless_refused (cond (is_some o) (cond b (Some no_lines) None) (Some unknown_id)) s (by_connection s o (λ x. with_connection s id (with_turn turn x)))) got some),
       ),
-      moves s s.machine id (is_open c'.standing) shared shared' old new c c' held serves got becomes
-          (still_open (is_open c.standing) (is_open c'.standing) (λ now. turn_opens turn c c.standing refl (sym (ap (λ (x : Connection). is_open x.standing) is) ∙ now))),
+      moves s s.machine id (is_open c'.phase) shared shared' old new c c' held serves got becomes
+          (still_open (is_open c.phase) (is_open c'.phase) (λ now. turn_opens turn c c.phase refl (sym (ap (λ (x : Connection). is_open x.phase) is) ∙ now))),
       refl,
     )
 
@@ -390,9 +390,9 @@ gone_isnt none = cc
 abbrev pub IsNone : changes.Change → Type 0
 IsNone what = what ≡ change.Lines 0
 
-changes_done : (s : State) (what : changes.Change) (id : ℕ) (shared shared' : Shared) (old new : Kept) (c c' : Connection) → (IsNone what → ⊥) → Represents shared old s → fin.get s.connections id ≡ Some c
-    → Makes s.types s.machine s.last_tick what c c' shared' → BecomesAt s.types (is_open c'.standing) c' id old new → Done s (event_on id what) shared' new
-changes_done s (change.Bytes bytes) id shared shared' old new c c' some held got makes becomes = comes_done s id bytes.now shared shared' old new c c' c.standing held got refl makes becomes
+changes_done : (s : State) (what : changes.Change) (id : ℕ) (shared shared' : Shared) (old new : Kept) (c c' : Connection) → (IsNone what → ⊥) → PartsRepresent shared old s → fin.get s.connections id ≡ Some c
+    → Makes s.types s.machine s.last_tick what c c' shared' → BecomesAt s.types (is_open c'.phase) c' id old new → Done s (event_on id what) shared' new
+changes_done s (change.Bytes bytes) id shared shared' old new c c' some held got makes becomes = comes_done s id bytes.now shared shared' old new c c' c.phase held got refl makes becomes
 changes_done s (change.Lines max) id shared shared' old new c c' some held got (is, serves) becomes =
     pumps_done s id max shared shared' old new c c' held got (some_lines max (max == 0) refl some) is serves becomes
 changes_done s change.Gone id shared shared' old new c c' some held got (is, serves) becomes = goes_done s id shared shared' old new c c' held got is serves becomes
@@ -407,74 +407,74 @@ by_known s change.Gone id o some got = ap (λ (p : Option Connection). cond (is_
 
 -- ---- a pump of no lines
 
-pub none_pumped : (s : State) (id max : ℕ) (hub : Hub) → (max == 0) ≡ true → is_some (found hub.connections id) ≡ true → IsIn hub s → refusal s (pumps id max) ≡ Some no_lines
+pub none_pumped : (s : State) (id max : ℕ) (hub : Hub) → (max == 0) ≡ true → is_some (found hub.connections id) ≡ true → HubRepresents hub s → refusal s (pumps id max) ≡ Some no_lines
 none_pumped s id max hub none known is =
     ap₂ (λ (a b : Bool). cond a (cond b (Some no_lines) None) (Some unknown_id)) (sym (known_is s.types (found hub.connections id) (fin.get s.connections id) (is.0.connections id)) ∙ known) none
 
-pub unknown_pumped : (s : State) (id max : ℕ) (hub : Hub) → is_some (found hub.connections id) ≡ false → IsIn hub s → refusal s (pumps id max) ≡ Some unknown_id
+pub unknown_pumped : (s : State) (id max : ℕ) (hub : Hub) → is_some (found hub.connections id) ≡ false → HubRepresents hub s → refusal s (pumps id max) ≡ Some unknown_id
 unknown_pumped s id max hub unknown is =
     ap (λ (a : Bool). cond a (cond (max == 0) (Some no_lines) None) (Some unknown_id)) (sym (known_is s.types (found hub.connections id) (fin.get s.connections id) (is.0.connections id)) ∙ unknown)
 
 -- ---- out of memory
 
-waiting_open : (st : Standing) → is_waiting st ≡ true → is_open st ≡ true
-waiting_open (waiting front) is = refl
+waiting_open : (st : Phase) → is_waiting st ≡ true → is_open st ≡ true
+waiting_open (waiting prefix) is = refl
 waiting_open (watching w) is = absurd (false_true is)
 waiting_open ended is = absurd (false_true is)
 waiting_open (gone had_ended) is = absurd (false_true is)
 
-pub watching_open : (st : Standing) → is_watching st ≡ true → is_open st ≡ true
-watching_open (waiting front) is = absurd (false_true is)
+pub watching_open : (st : Phase) → is_watching st ≡ true → is_open st ≡ true
+watching_open (waiting prefix) is = absurd (false_true is)
 watching_open (watching w) is = refl
 watching_open ended is = absurd (false_true is)
 watching_open (gone had_ended) is = absurd (false_true is)
 
 -- the code holds a state to which the event leads that found no memory
-abbrev pub Starved : State → Event → Shared → Kept → Type 0
-Starved s e shared k = (t : State) × Starves s e (λ q. false) t × Represents shared k t × (t.last_tick ≡ s.last_tick)
+abbrev pub OutOfMemory : State → Event → Shared → Kept → Type 0
+OutOfMemory s e shared k = (t : State) × RunsOutOfMemory s e (λ q. false) t × PartsRepresent shared k t × (t.last_tick ≡ s.last_tick)
 
-dies : (s : State) (id : ℕ) (shared shared' : Shared) (old new : Kept) (c : Connection) → Represents shared old s → SharedStands shared' s.types s.machine → fin.get s.connections id ≡ Some c → is_open c.standing ≡ true
-    → BecomesAt s.types false (with_standing c ended) id old new
-    → (t : State) × (t ≡ by_connection s (fin.get s.connections id) (λ x. with_connection s id (dead x))) × Represents shared' new t × (t.last_tick ≡ s.last_tick)
+dies : (s : State) (id : ℕ) (shared shared' : Shared) (old new : Kept) (c : Connection) → PartsRepresent shared old s → SharedRepresents shared' s.types s.machine → fin.get s.connections id ≡ Some c → is_open c.phase ≡ true
+    → BecomesAt s.types false (with_phase c ended) id old new
+    → (t : State) × (t ≡ by_connection s (fin.get s.connections id) (λ x. with_connection s id (killed x))) × PartsRepresent shared' new t × (t.last_tick ≡ s.last_tick)
 dies s id shared shared' old new c held serves got was_open becomes =
-    let c' = with_standing c ended in (
+    let c' = with_phase c ended in (
       with_connection s id c',
-      sym (ap (λ (o : Option Connection). by_connection s o (λ x. with_connection s id (dead x))) got ∙ ap (with_connection s id) (ap (λ (b : Bool). cond b c' c) was_open)),
-      moves s s.machine id false shared shared' old new c c' held serves got becomes (no_first (is_open c.standing)),
+      sym (ap (λ (o : Option Connection). by_connection s o (λ x. with_connection s id (killed x))) got ∙ ap (with_connection s id) (ap (λ (b : Bool). cond b c' c) was_open)),
+      moves s s.machine id false shared shared' old new c c' held serves got becomes (no_first (is_open c.phase)),
       refl,
     )
 
-changes_starve : (s : State) (what : changes.Change) (id : ℕ) (shared shared' : Shared) (old new : Kept) (c : Connection) → (IsNone what → ⊥) → Represents shared old s → fin.get s.connections id ≡ Some c
-    → takes_memory_on what c.standing ≡ true → SharedStands shared' s.types s.machine → BecomesAt s.types false (with_standing c ended) id old new → Starved s (event_on id what) shared' new
-changes_starve s (change.Bytes bytes) id shared shared' old new c some held got takes serves becomes =
-    let died = dies s id shared shared' old new c held serves got (waiting_open c.standing takes) becomes in (
+changes_run_out : (s : State) (what : changes.Change) (id : ℕ) (shared shared' : Shared) (old new : Kept) (c : Connection) → (IsNone what → ⊥) → PartsRepresent shared old s → fin.get s.connections id ≡ Some c
+    → takes_memory_on what c.phase ≡ true → SharedRepresents shared' s.types s.machine → BecomesAt s.types false (with_phase c ended) id old new → OutOfMemory s (event_on id what) shared' new
+changes_run_out s (change.Bytes bytes) id shared shared' old new c some held got takes serves becomes =
+    let died = dies s id shared shared' old new c held serves got (waiting_open c.phase takes) becomes in (
       died.0,
       (
         by_known s (change.Bytes bytes) id (Some c) some got,
-        ap (λ (o : Option Connection). unwrap_or (option_map (λ x. is_waiting x.standing) o) false) got ∙ takes,
+        ap (λ (o : Option Connection). unwrap_or (option_map (λ x. is_waiting x.phase) o) false) got ∙ takes,
         died.1,
       ),
       died.2,
       died.3,
     )
-changes_starve s (change.Lines max) id shared shared' old new c some held got takes serves becomes =
-    let died = dies s id shared shared' old new c held serves got (watching_open c.standing takes) becomes in (
+changes_run_out s (change.Lines max) id shared shared' old new c some held got takes serves becomes =
+    let died = dies s id shared shared' old new c held serves got (watching_open c.phase takes) becomes in (
       died.0,
       (
         by_known s (change.Lines max) id (Some c) some got,
-        ap (λ (o : Option Connection). unwrap_or (option_map (λ x. is_watching x.standing) o) false) got ∙ takes,
+        ap (λ (o : Option Connection). unwrap_or (option_map (λ x. is_watching x.phase) o) false) got ∙ takes,
         died.1,
       ),
       died.2,
       died.3,
     )
-changes_starve s change.Gone id shared shared' old new c some held got takes serves becomes = absurd (false_true takes)
+changes_run_out s change.Gone id shared shared' old new c some held got takes serves becomes = absurd (false_true takes)
 
 -- ---- the call
 
 -- the connection of an id, and that of the state
-stands_at : (s : State) (shared : Shared) (k : Kept) (id : ℕ) (d : conns.Connection) (c : Connection) → Represents shared k s → found k id ≡ Some d → fin.get s.connections id ≡ Some c → Holds s.types d c → IsAt id d k
-stands_at s shared k id d c held at got holds = (at, held.open_is id ∙ ap open_in got ∙ sym (same_open s.types d c holds), held.apart)
+represents_at : (s : State) (shared : Shared) (k : Kept) (id : ℕ) (d : conns.Connection) (c : Connection) → PartsRepresent shared k s → found k id ≡ Some d → fin.get s.connections id ≡ Some c → ConnectionRepresents s.types d c → IsAt id d k
+represents_at s shared k id d c held at got holds = (at, held.open_is id ∙ ap open_in got ∙ sym (same_open s.types d c holds), held.apart)
 
 none_refused : {A : Type 0} {x : A} → Some x ≡ None → ⊥
 none_refused e = cc
@@ -483,30 +483,30 @@ abbrev pub with_parts : Hub → Shared → Kept → Hub
 with_parts hub shared k = record { alloc = hub.alloc; shared = shared; connections = k; last_tick = hub.last_tick }
 
 pub changes_handled : (hub : Hub) (what : changes.Change) (id : ℕ) (shared : Shared) (new : Kept) (o : Outcome) → (IsNone what → ⊥)
-    → ((types : List ServedShape) (m : History) (d : conns.Connection) (c : Connection) → SharedStands hub.shared types m → IsAt id d hub.connections → Holds types d c
+    → ((types : List ServedShape) (m : History) (d : conns.Connection) (c : Connection) → SharedRepresents hub.shared types m → IsAt id d hub.connections → ConnectionRepresents types d c
     → Changes types m hub.last_tick what id c hub.connections new shared o)
     → (found hub.connections id ≡ None → (o ≡ outcome.refused unknown_id) × (new ≡ hub.connections) × (shared ≡ hub.shared)) → (is_some (found hub.connections id) ≡ true → refusal_in o ≡ None)
-    → Handles hub (event_on id what) o (with_parts hub shared new)
+    → StepsOrRefuses hub (event_on id what) o (with_parts hub shared new)
 changes_handled hub what id shared new o some known unknown taken = go (found hub.connections id) refl
   where
     after : Hub
     after = with_parts hub shared new
 
-    handled : (d : conns.Connection) → found hub.connections id ≡ Some d → (p : Outcome) → o ≡ p → Handles hub (event_on id what) p after
+    handled : (d : conns.Connection) → found hub.connections id ≡ Some d → (p : Outcome) → o ≡ p → StepsOrRefuses hub (event_on id what) p after
     handled d at outcome.done is = λ s here.
         let c = some_held s.types (found hub.connections id) (fin.get s.connections id) d (here.0.connections id) at in
-        let changes = subst (Changes s.types s.machine hub.last_tick what id c.0 hub.connections new shared) is (known s.types s.machine d c.0 here.0.machine (stands_at s hub.shared hub.connections id d c.0 here.0 at c.1 c.2) c.2) in
+        let changes = subst (Changes s.types s.machine hub.last_tick what id c.0 hub.connections new shared) is (known s.types s.machine d c.0 here.0.machine (represents_at s hub.shared hub.connections id d c.0 here.0 at c.1 c.2) c.2) in
         let done = changes_done s what id hub.shared shared hub.connections new c.0 changes.0 some here.0 c.1 (subst (λ (n : ℕ). Makes s.types s.machine n what c.0 changes.0 shared) here.1 changes.1) changes.2 in
         (by_known s what id (Some c.0) some c.1, done.0, done.1, (done.2, here.1 ∙ sym done.3))
     handled d at (outcome.refused why) is = absurd (none_refused (sym (ap refusal_in is) ∙ taken (ap is_some at)))
-    handled d at outcome.starved is = λ s here.
+    handled d at outcome.out_of_memory is = λ s here.
         let c = some_held s.types (found hub.connections id) (fin.get s.connections id) d (here.0.connections id) at in
-        let changes = subst (Changes s.types s.machine hub.last_tick what id c.0 hub.connections new shared) is (known s.types s.machine d c.0 here.0.machine (stands_at s hub.shared hub.connections id d c.0 here.0 at c.1 c.2) c.2) in
-        let starves = changes_starve s what id hub.shared shared hub.connections new c.0 some here.0 c.1 changes.0 changes.1 changes.2 in
-        ((λ q. false), starves.0, starves.1, (starves.2, here.1 ∙ sym starves.3))
+        let changes = subst (Changes s.types s.machine hub.last_tick what id c.0 hub.connections new shared) is (known s.types s.machine d c.0 here.0.machine (represents_at s hub.shared hub.connections id d c.0 here.0 at c.1 c.2) c.2) in
+        let runs_out_of_memory = changes_run_out s what id hub.shared shared hub.connections new c.0 some here.0 c.1 changes.0 changes.1 changes.2 in
+        ((λ q. false), runs_out_of_memory.0, runs_out_of_memory.1, (runs_out_of_memory.2, here.1 ∙ sym runs_out_of_memory.3))
 
-    go : (f : Option conns.Connection) → found hub.connections id ≡ f → Handles hub (event_on id what) o after
-    go None at = subst (λ (p : Outcome). Handles hub (event_on id what) p after) (sym (unknown at).0) (
+    go : (f : Option conns.Connection) → found hub.connections id ≡ f → StepsOrRefuses hub (event_on id what) o after
+    go None at = subst (λ (p : Outcome). StepsOrRefuses hub (event_on id what) p after) (sym (unknown at).0) (
       ap₂ (with_parts hub) (unknown at).2 (unknown at).1,
       λ s here. by_known s what id None some (none_held s.types (found hub.connections id) (fin.get s.connections id) (here.0.connections id) at),
     )
@@ -514,8 +514,8 @@ changes_handled hub what id shared new o some known unknown taken = go (found hu
 
 -- ---- compactions
 
-over_shared : (s : State) (m : History) (shared shared' : Shared) (k : Kept) → Represents shared k s → SharedStands shared' s.types m → Represents shared' k (with_machine s m)
-over_shared s m shared shared' k held stands = record { machine = stands; connections = held.connections; open_is = held.open_is; highest_is = held.highest_is; apart = held.apart }
+over_shared : (s : State) (m : History) (shared shared' : Shared) (k : Kept) → PartsRepresent shared k s → SharedRepresents shared' s.types m → PartsRepresent shared' k (with_machine s m)
+over_shared s m shared shared' k held represents = record { machine = represents; connections = held.connections; open_is = held.open_is; highest_is = held.highest_is; apart = held.apart }
 
 -- from the compacted number to the current revision
 within : (low c high : ℕ) → (c < low → ⊥) → (high < c → ⊥) → (nat_le low c && nat_le c high) ≡ true
@@ -569,21 +569,21 @@ pub late_refused : (A : Type 0) (s : State) (c : ℕ) (r : Result A CompactFault
 late_refused A s c r e (early, late) is large = refused_high s c (late.0 (is ∙ ap (failed_with A) large))
 
 -- the same connections over another API
-pub compacts_well : (s : State) (c : ℕ) (hub : Hub) (shared : Shared) → IsIn hub s → refusal s (compacts c) ≡ None
-    → SharedStands shared s.types (compacted_to c s.machine) → (refusal s (compacts c) ≡ None) × (t : State) × Steps s (compacts c) t × (Represents shared hub.connections t × (hub.last_tick ≡ t.last_tick))
-compacts_well s c hub shared is free stands =
+pub compacts_well : (s : State) (c : ℕ) (hub : Hub) (shared : Shared) → HubRepresents hub s → refusal s (compacts c) ≡ None
+    → SharedRepresents shared s.types (compacted_to c s.machine) → (refusal s (compacts c) ≡ None) × (t : State) × Steps s (compacts c) t × (PartsRepresent shared hub.connections t × (hub.last_tick ≡ t.last_tick))
+compacts_well s c hub shared is free represents =
     let t = with_machine s (compacted_to c s.machine) in (
       free,
       t,
       (undecided, refl, sym (ap (λ (o : Option Refusal). unless_refused o s t) free)),
-      (over_shared s (compacted_to c s.machine) hub.shared shared hub.connections is.0 stands, is.1),
+      (over_shared s (compacted_to c s.machine) hub.shared shared hub.connections is.0 represents, is.1),
     )
 
 pub same_shared : (hub : Hub) (shared : Shared) → shared ≡ hub.shared → with_parts hub shared hub.connections ≡ hub
 same_shared hub shared same = ap (λ (a : Shared). with_parts hub a hub.connections) same
 
-pub same_held : (s : State) (hub : Hub) (shared : Shared) → IsIn hub s → SharedStands shared s.types s.machine → Represents shared hub.connections s × (hub.last_tick ≡ s.last_tick)
-same_held s hub shared is stands = (over_shared s s.machine hub.shared shared hub.connections is.0 stands, is.1)
+pub same_held : (s : State) (hub : Hub) (shared : Shared) → HubRepresents hub s → SharedRepresents shared s.types s.machine → PartsRepresent shared hub.connections s × (hub.last_tick ≡ s.last_tick)
+same_held s hub shared is represents = (over_shared s s.machine hub.shared shared hub.connections is.0 represents, is.1)
 
 -- ---- what failed below
 
@@ -592,48 +592,48 @@ no_refusal A failed.Memory = refl
 no_refusal A failed.Store = refl
 no_refusal A failed.Unreadable = refl
 
-pub fails_starved : (A : Type 0) (f : Fault) (h : HubFault) → h ≡ hub_fault_of f → outcome_of {A = A} (Err h) ≡ outcome.starved
-fails_starved A f h is = ap (λ (x : HubFault). outcome_of {A = A} (Err x)) is ∙ go f
+pub fails_out_of_memory : (A : Type 0) (f : Fault) (h : HubFault) → h ≡ hub_fault_of f → outcome_of {A = A} (Err h) ≡ outcome.out_of_memory
+fails_out_of_memory A f h is = ap (λ (x : HubFault). outcome_of {A = A} (Err x)) is ∙ go f
   where
-    go : (g : Fault) → outcome_of {A = A} (Err (hub_fault_of g)) ≡ outcome.starved
+    go : (g : Fault) → outcome_of {A = A} (Err (hub_fault_of g)) ≡ outcome.out_of_memory
     go failed.Memory = refl
     go failed.Store = refl
     go failed.Unreadable = refl
 
-pub failed_handled : (hub new : Hub) (e : Event) (o : Outcome) → o ≡ outcome.starved → Handles hub e outcome.starved new → Handles hub e o new
-failed_handled hub new e o is handles = subst (λ (p : Outcome). Handles hub e p new) (sym is) handles
+pub failed_handled : (hub new : Hub) (e : Event) (o : Outcome) → o ≡ outcome.out_of_memory → StepsOrRefuses hub e outcome.out_of_memory new → StepsOrRefuses hub e o new
+failed_handled hub new e o is handles = subst (λ (p : Outcome). StepsOrRefuses hub e p new) (sym is) handles
 
 -- ---- bytes that are taken
 
-taken_left : (c : Connection) (n : ℕ) → left_out c.standing (drop c.taken c.written) ≡ drop c.taken c.written → drop (with_taken c n).taken c.written ≡ drop n (drop c.taken c.written)
+taken_left : (c : Connection) (n : ℕ) → left_out c.phase (drop c.taken c.written) ≡ drop c.taken c.written → drop (with_taken c n).taken c.written ≡ drop n (drop c.taken c.written)
 taken_left c n all = ap (λ (out : List ℕ). drop (c.taken + min n (length out)) c.written) all ∙ left_after c.taken n c.written
 
-pub takes_ended : (types : List ServedShape) (out rest : Out) (c : Connection) (n : ℕ) → left rest ≡ drop n (left out) → Holds types (conn.Ended out) c → Holds types (conn.Ended rest) (with_taken c n)
-takes_ended types out rest c n taken (stands, is) =
-    (stands, taken_left c n (ap (λ (st : Standing). left_out st (drop c.taken c.written)) stands) ∙ ap (drop n) is ∙ sym taken)
+pub takes_ended : (types : List ServedShape) (out rest : Out) (c : Connection) (n : ℕ) → left rest ≡ drop n (left out) → ConnectionRepresents types (conn.Ended out) c → ConnectionRepresents types (conn.Ended rest) (with_taken c n)
+takes_ended types out rest c n taken (represents, is) =
+    (represents, taken_left c n (ap (λ (st : Phase). left_out st (drop c.taken c.written)) represents) ∙ ap (drop n) is ∙ sym taken)
 
 taken_low : (taken n long left : ℕ) → left ≡ long - taken → taken ≤ long → taken + min n left ≤ long
 taken_low taken n long left is low = omega (arith, is, low)
 
-pub takes_watching : (types : List ServedShape) (w : TheWatch) (out rest : Out) (c : Connection) (n : ℕ) → left rest ≡ drop n (left out) → Holds types (conn.Watch w out) c
-    → Holds types (conn.Watch w rest) (with_taken c n)
-takes_watching types w out rest c n taken (stands, is, low) =
-    let all : left_out c.standing (drop c.taken c.written) ≡ drop c.taken c.written = ap (λ (st : Standing). left_out st (drop c.taken c.written)) stands in
-    (stands, taken_left c n all ∙ ap (drop n) is ∙ sym taken, taken_low c.taken n (length c.written) (length (out_of c)) (ap length all ∙ length-drop c.taken c.written) low)
+pub takes_watching : (types : List ServedShape) (w : TheWatch) (out rest : Out) (c : Connection) (n : ℕ) → left rest ≡ drop n (left out) → ConnectionRepresents types (conn.Watch w out) c
+    → ConnectionRepresents types (conn.Watch w rest) (with_taken c n)
+takes_watching types w out rest c n taken (represents, is, low) =
+    let all : left_out c.phase (drop c.taken c.written) ≡ drop c.taken c.written = ap (λ (st : Phase). left_out st (drop c.taken c.written)) represents in
+    (represents, taken_left c n all ∙ ap (drop n) is ∙ sym taken, taken_low c.taken n (length c.written) (length (out_of c)) (ap length all ∙ length-drop c.taken c.written) low)
 
 nothing_taken : (c : Connection) (n : ℕ) → out_of c ≡ [] → out_of (with_taken c n) ≡ []
 nothing_taken c n none = out_taken c n ∙ ap (drop n) none ∙ drop_all n [] (omega arith)
 
-pub takes_over : (types : List ServedShape) (had_ended : Bool) (c : Connection) (n : ℕ) → Holds types (conn.Over had_ended) c → Holds types (conn.Over had_ended) (with_taken c n)
+pub takes_over : (types : List ServedShape) (had_ended : Bool) (c : Connection) (n : ℕ) → ConnectionRepresents types (conn.Closed had_ended) c → ConnectionRepresents types (conn.Closed had_ended) (with_taken c n)
 takes_over types had_ended c n (closed, had, none) = (closed, had, nothing_taken c n none)
 
-pub takes_well : (s : State) (id n : ℕ) (shared : Shared) (old new : Kept) → Represents shared old s
-    → ((d : conns.Connection) (c : Connection) → IsAt id d old → Holds s.types d c → BecomesAt s.types true (with_taken c n) id old new)
-    → (found old id ≡ None → new ≡ old) → Represents shared new (with_bytes_taken s id n) × ((with_bytes_taken s id n).last_tick ≡ s.last_tick)
+pub takes_well : (s : State) (id n : ℕ) (shared : Shared) (old new : Kept) → PartsRepresent shared old s
+    → ((d : conns.Connection) (c : Connection) → IsAt id d old → ConnectionRepresents s.types d c → BecomesAt s.types true (with_taken c n) id old new)
+    → (found old id ≡ None → new ≡ old) → PartsRepresent shared new (with_bytes_taken s id n) × ((with_bytes_taken s id n).last_tick ≡ s.last_tick)
 takes_well s id n shared old new held known unknown = go (found old id) refl
   where
     Taken : State → Type 0
-    Taken t = Represents shared new t × (t.last_tick ≡ s.last_tick)
+    Taken t = PartsRepresent shared new t × (t.last_tick ≡ s.last_tick)
 
     still : (b : Bool) → b && true ≡ b
     still true = refl
@@ -642,8 +642,8 @@ takes_well s id n shared old new held known unknown = go (found old id) refl
     go : (o : Option conns.Connection) → found old id ≡ o → Taken (with_bytes_taken s id n)
     go None at =
         subst Taken (sym (ap (λ (p : Option Connection). by_connection s p (λ c. with_connection s id (with_taken c n))) (none_held s.types (found old id) (fin.get s.connections id) (held.connections id) at)))
-        (subst (λ (k : Kept). Represents shared k s) (sym (unknown at)) held, refl)
+        (subst (λ (k : Kept). PartsRepresent shared k s) (sym (unknown at)) held, refl)
     go (Some d) at =
         let c = some_held s.types (found old id) (fin.get s.connections id) d (held.connections id) at in
         subst Taken (sym (ap (λ (p : Option Connection). by_connection s p (λ c. with_connection s id (with_taken c n))) c.1))
-        (moves s s.machine id true shared shared old new c.0 (with_taken c.0 n) held held.machine c.1 (known d c.0 (stands_at s shared old id d c.0 held at c.1 c.2) c.2) (still (is_open c.0.standing)), refl)
+        (moves s s.machine id true shared shared old new c.0 (with_taken c.0 n) held held.machine c.1 (known d c.0 (represents_at s shared old id d c.0 held at c.1 c.2) c.2) (still (is_open c.0.phase)), refl)

@@ -3,7 +3,7 @@ use Rattle.std.proofs.Common.{arith, ◌≡◌, ℕ, ◌+◌, List, [], length, 
 use Rattle.std.specs.Prelude.{option_map, unwrap_or}
 use Rattle.std.specs.FinMap as fin
 use Rattle.std.proofs.lemmas.List.{drop-drop, drop_all, drop_min}
-use Rattle.httpedge.specs.Connections.{Connection, Standing, waiting, watching, ended, gone, left_out, out_of, out_on, with_taken}
+use Rattle.httpedge.specs.Connections.{Connection, Phase, waiting, watching, ended, gone, left_out, out_of, out_on, with_taken}
 use Rattle.httpedge.specs.Steps.{State, by_connection, with_bytes_taken, with_connection}
 use Rattle.httpedge.proofs.Connected.{put_there}
 
@@ -13,15 +13,15 @@ left_after taken n written = sym (drop-drop (min n (length (drop taken written))
 none_left : (n : ℕ) → drop {A = ℕ} n [] ≡ []
 none_left n = drop_all n [] (omega arith)
 
-out_by : (st : Standing) (taken n : ℕ) (written : List ℕ)
+out_by : (st : Phase) (taken n : ℕ) (written : List ℕ)
     → left_out st (drop (taken + min n (length (left_out st (drop taken written)))) written) ≡ drop n (left_out st (drop taken written))
-out_by (waiting front) taken n written = left_after taken n written
+out_by (waiting prefix) taken n written = left_after taken n written
 out_by (watching w) taken n written = left_after taken n written
 out_by ended taken n written = left_after taken n written
 out_by (gone had_ended) taken n written = sym (none_left n)
 
 pub out_taken : (c : Connection) (n : ℕ) → out_of (with_taken c n) ≡ drop n (out_of c)
-out_taken c n = out_by c.standing c.taken n c.written
+out_taken c n = out_by c.phase c.taken n c.written
 
 out_on_by : (s : State) (id n : ℕ) (o : Option Connection) → fin.get s.connections id ≡ o
     → out_on (by_connection s o (λ c. with_connection s id (with_taken c n))).connections id ≡ drop n (unwrap_or (option_map out_of o) [])

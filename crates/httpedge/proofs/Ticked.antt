@@ -16,13 +16,13 @@ use Rattle.api_types.specs.TypesFile.{ServedShape}
 use Rattle.httpedge.specs.declared.shared.Shared.{Shared}
 use Rattle.httpedge.specs.declared.connection.Connection as conns
 use Rattle.httpedge.specs.declared.connections.Connections.{Connections as Kept}
-use Rattle.httpedge.specs.Connections.{Connection, Connections, Standing, waiting, watching, ended, gone, each, is_new, is_open, is_watching, open_on}
+use Rattle.httpedge.specs.Connections.{Connection, Connections, Phase, waiting, watching, ended, gone, each, is_new, is_open, is_watching, open_on}
 use Rattle.requests.specs.Decision.{undecided}
-use Rattle.httpedge.specs.Held.{Holds, HoldsAt, IsApart, Lists, PutAt, Represents, found, found_in, held_or, is_above, is_open_in, over_by}
-use Rattle.httpedge.specs.Ids.{is_in}
+use Rattle.httpedge.specs.ConnectionViews.{ConnectionRepresents, ConnectionRepresentsAt, IsApart, Lists, PutAt, PartsRepresent, found, found_in, held_or, is_above, is_open_in, over_by}
+use Rattle.httpedge.specs.IdViews.{is_in}
 use Rattle.httpedge.specs.Runs.{Steps}
-use Rattle.httpedge.specs.Steps.{Refusal, State, tick_back, ticks, dead_or_ticked, refusal, unless_refused, with_tick, with_turn, writes_at, Starves}
-use Rattle.httpedge.specs.Ticks.{HoldsAll, TicksAll, TicksAt, TicksIn, due_on, put_where, ticked_all, ticked_at}
+use Rattle.httpedge.specs.Steps.{Refusal, State, tick_back, ticks, killed_or_ticked, refusal, unless_refused, with_tick, with_turn, writes_at, RunsOutOfMemory}
+use Rattle.httpedge.specs.TickViews.{ConnectionsRepresent, TicksAll, TicksAt, TicksIn, due_on, put_where, ticked_all, ticked_at}
 use Rattle.httpedge.specs.Watches.{ticked}
 use Rattle.httpedge.proofs.Connected.{Entries, changed, got_each, ids, itself, sorted_same, tied_same}
 use Rattle.httpedge.proofs.Counting.{sorted_parts}
@@ -35,44 +35,44 @@ wrong e = cc
 -- ---- one connection
 
 -- a tick opens nothing
-pub tick_opens : (types : List ServedShape) (ms : ℕ) (b : Bool) (c : Connection) → is_open (dead_or_ticked types ms b c).standing ≡ true → is_open c.standing ≡ true
-tick_opens types ms b c now = go (is_watching c.standing) refl
+pub tick_opens : (types : List ServedShape) (ms : ℕ) (b : Bool) (c : Connection) → is_open (killed_or_ticked types ms b c).phase ≡ true → is_open c.phase ≡ true
+tick_opens types ms b c now = go (is_watching c.phase) refl
   where
-    go : (w : Bool) → is_watching c.standing ≡ w → is_open c.standing ≡ true
-    go true is = watching_open c.standing is
-    go false is = sym (ap (λ (x : Connection). is_open x.standing) (dead_idle types ms b c is)) ∙ now
+    go : (w : Bool) → is_watching c.phase ≡ w → is_open c.phase ≡ true
+    go true is = watching_open c.phase is
+    go false is = sym (ap (λ (x : Connection). is_open x.phase) (dead_idle types ms b c is)) ∙ now
 
-not_watching : (st : Standing) → is_open st ≡ false → is_watching st ≡ false
-not_watching (waiting front) is = refl
+not_watching : (st : Phase) → is_open st ≡ false → is_watching st ≡ false
+not_watching (waiting prefix) is = refl
 not_watching (watching w) is = absurd (wrong (sym is))
 not_watching ended is = refl
 not_watching (gone had_ended) is = refl
 
-no_turn : (types : List ServedShape) (ms : ℕ) (b : Bool) (o : Option Connection) → open_in o ≡ false → option_map (dead_or_ticked types ms b) o ≡ o
+no_turn : (types : List ServedShape) (ms : ℕ) (b : Bool) (o : Option Connection) → open_in o ≡ false → option_map (killed_or_ticked types ms b) o ≡ o
 no_turn types ms b None is = refl
-no_turn types ms b (Some c) is = ap (λ (d : Connection). Some d) (dead_idle types ms b c (not_watching c.standing is))
+no_turn types ms b (Some c) is = ap (λ (d : Connection). Some d) (dead_idle types ms b c (not_watching c.phase is))
 
 -- ---- the connection of an id
 
-closed_over : (types : List ServedShape) (a b : Bool) (c : Connection) → HoldsAt types (over_by a b) (Some c) → is_open c.standing ≡ false
+closed_over : (types : List ServedShape) (a b : Bool) (c : Connection) → ConnectionRepresentsAt types (over_by a b) (Some c) → is_open c.phase ≡ false
 closed_over types true b c holds = holds.0
 closed_over types false true c holds = holds.0
 closed_over types false false c holds = absurd holds
 
 -- one that isn't held stays as it is
-over_ticks : (types : List ServedShape) (ms id : ℕ) (before : Connections) (held : Found) (a b : Bool) (o : Option Connection) → HoldsAll types held before → fin.get before id ≡ o
-    → HoldsAt types (over_by a b) o → HoldsAll types held (put_where o (dead_or_ticked types ms false) before id)
+over_ticks : (types : List ServedShape) (ms id : ℕ) (before : Connections) (held : Found) (a b : Bool) (o : Option Connection) → ConnectionsRepresent types held before → fin.get before id ≡ o
+    → ConnectionRepresentsAt types (over_by a b) o → ConnectionsRepresent types held (put_where o (killed_or_ticked types ms false) before id)
 over_ticks types ms id before held a b None all got holds = all
 over_ticks types ms id before held a b (Some c) all got holds =
-    let idle = dead_idle types ms false c (closed_watches c.standing (closed_over types a b c holds)) in
-    subst (HoldsAll types held) (sym (ap (fin.insert before id) idle ∙ put_same before id c got)) all
+    let idle = dead_idle types ms false c (closed_watches c.phase (closed_over types a b c holds)) in
+    subst (ConnectionsRepresent types held) (sym (ap (fin.insert before id) idle ∙ put_same before id c got)) all
 
-pub none_ticks : (types : List ServedShape) (ms id : ℕ) (before : Connections) (held held' : BTreeMap ℕ conns.Connection) (had_ended cut : ℕ → Bool) → HoldsAll types (found_in held had_ended cut) before
+pub none_ticks : (types : List ServedShape) (ms id : ℕ) (before : Connections) (held held' : BTreeMap ℕ conns.Connection) (had_ended cut : ℕ → Bool) → ConnectionsRepresent types (found_in held had_ended cut) before
     → get nat_cmp held id ≡ None → held' ≡ held → TicksAt types ms id before (found_in held' had_ended cut) false
 none_ticks types ms id before held held' had_ended cut all at same = (
   over_ticks types ms id before (found_in held' had_ended cut) (had_ended id) (cut id) (fin.get before id)
-      (subst (λ (h : BTreeMap ℕ conns.Connection). HoldsAll types (found_in h had_ended cut) before) (sym same) all) refl
-      (subst (λ (o : Option conns.Connection). HoldsAt types (held_or o (over_by (had_ended id) (cut id))) (fin.get before id)) at (all id)),
+      (subst (λ (h : BTreeMap ℕ conns.Connection). ConnectionsRepresent types (found_in h had_ended cut) before) (sym same) all) refl
+      (subst (λ (o : Option conns.Connection). ConnectionRepresentsAt types (held_or o (over_by (had_ended id) (cut id))) (fin.get before id)) at (all id)),
   λ is. absurd (wrong is),
 )
 
@@ -94,18 +94,18 @@ put_keys held held' id e was put q = ap is_some (put q) ∙ go (eq_by_cmp nat_cm
     go true same = sym (ap (λ (k : ℕ). is_some (get nat_cmp held k)) (sym (same refl)) ∙ was)
     go false same = refl
 
-pub some_ticks : (types : List ServedShape) (ms id : ℕ) (before : Connections) (old new : Found) (d e : conns.Connection) (found_none : Bool) → HoldsAll types old before → old id ≡ Some d
-    → PutAt id e old new → ((c : Connection) → Holds types d c → Holds types e (dead_or_ticked types ms found_none c))
-    → ((c : Connection) → Holds types d c → found_none ≡ true → writes_at ms c.standing ≡ true) → TicksAt types ms id before new found_none
-some_ticks types ms id before old new d e found_none held at put turns due =
+pub some_ticks : (types : List ServedShape) (ms id : ℕ) (before : Connections) (old new : Found) (d e : conns.Connection) (some_ran_out : Bool) → ConnectionsRepresent types old before → old id ≡ Some d
+    → PutAt id e old new → ((c : Connection) → ConnectionRepresents types d c → ConnectionRepresents types e (killed_or_ticked types ms some_ran_out c))
+    → ((c : Connection) → ConnectionRepresents types d c → some_ran_out ≡ true → writes_at ms c.phase ≡ true) → TicksAt types ms id before new some_ran_out
+some_ticks types ms id before old new d e some_ran_out held at put turns due =
     let found = some_held types (old id) (fin.get before id) d (held id) at in
-    let f = dead_or_ticked types ms found_none in (
-      subst (HoldsAll types new) (sym (ap (λ (o : Option Connection). put_where o f before id) found.1))
+    let f = killed_or_ticked types ms some_ran_out in (
+      subst (ConnectionsRepresent types new) (sym (ap (λ (o : Option Connection). put_where o f before id) found.1))
           (held_put types old new before id e (f found.0) held put (turns found.0 found.2)),
-      λ is. ap (λ (o : Option Connection). unwrap_or (option_map (λ c. writes_at ms c.standing) o) false) found.1 ∙ due found.0 found.2 is,
+      λ is. ap (λ (o : Option Connection). unwrap_or (option_map (λ c. writes_at ms c.phase) o) false) found.1 ∙ due found.0 found.2 is,
     )
 
-open_same : (types : List ServedShape) (o : Option conns.Connection) (p : Option Connection) → HoldsAt types o p → unwrap_or (option_map is_open_in o) false ≡ open_in p
+open_same : (types : List ServedShape) (o : Option conns.Connection) (p : Option Connection) → ConnectionRepresentsAt types o p → unwrap_or (option_map is_open_in o) false ≡ open_in p
 open_same types None None holds = refl
 open_same types None (Some c) holds = absurd holds
 open_same types (Some d) None holds = absurd holds
@@ -118,10 +118,10 @@ lists left q = list_any (is_at (nat_cmp q)) left
 
 -- these are left; each other had its turn, or found no memory
 abbrev pub SoFar : List ServedShape → ℕ → Connections → List ℕ → Connections → Bool → Type 0
-SoFar types ms before left after found_none =
+SoFar types ms before left after some_ran_out =
     (which : ℕ → Bool) × ((q : ℕ) → lists left q ≡ true → (fin.get after q ≡ fin.get before q) × (which q ≡ false))
-    × ((q : ℕ) → lists left q ≡ false → fin.get after q ≡ option_map (dead_or_ticked types ms (which q)) (fin.get before q))
-    × ((q : ℕ) → which q ≡ true → due_on ms before q ≡ true) × (found_none ≡ false → (q : ℕ) → which q ≡ false) × (found_none ≡ true → (q : ℕ) × (which q ≡ true))
+    × ((q : ℕ) → lists left q ≡ false → fin.get after q ≡ option_map (killed_or_ticked types ms (which q)) (fin.get before q))
+    × ((q : ℕ) → which q ≡ true → due_on ms before q ≡ true) × (some_ran_out ≡ false → (q : ℕ) → which q ≡ false) × (some_ran_out ≡ true → (q : ℕ) × (which q ≡ true))
 
 pub ticks_begin : (types : List ServedShape) (ms : ℕ) (before : Connections) (ids : BTreeSet ℕ) → Lists ids before → SoFar types ms before ids.keys before false
 ticks_begin types ms before old_ids listed = (
@@ -158,79 +158,79 @@ some_more : (b c : Bool) → (b || c) ≡ false → (b ≡ false) × (c ≡ fals
 some_more true c is = absurd (wrong (sym is))
 some_more false c is = (refl, is)
 
-pub ticks_more : (types : List ServedShape) (ms : ℕ) (before : Connections) (id : ℕ) (left : List ℕ) (after : Connections) (found_none starved : Bool) → IsStrictlySortedBy nat_cmp (id ∷ left)
-    → SoFar types ms before (id ∷ left) after found_none → (starved ≡ true → due_on ms after id ≡ true)
-    → SoFar types ms before left (ticked_at types ms starved after id) (found_none || starved)
-ticks_more types ms before id left after found_none starved sorted (which, waits, had, due, none, some) late = (
+pub ticks_more : (types : List ServedShape) (ms : ℕ) (before : Connections) (id : ℕ) (left : List ℕ) (after : Connections) (some_ran_out out_of_memory : Bool) → IsStrictlySortedBy nat_cmp (id ∷ left)
+    → SoFar types ms before (id ∷ left) after some_ran_out → (out_of_memory ≡ true → due_on ms after id ≡ true)
+    → SoFar types ms before left (ticked_at types ms out_of_memory after id) (some_ran_out || out_of_memory)
+ticks_more types ms before id left after some_ran_out out_of_memory sorted (which, waits, had, due, none, some) late = (
   which',
   λ q is. waits_by q (eq_by_cmp nat_cmp q id) refl is,
   λ q is. had_by q (eq_by_cmp nat_cmp q id) refl is,
   λ q is. due_by q (eq_by_cmp nat_cmp q id) refl is,
-  λ is q. none_by q (eq_by_cmp nat_cmp q id) (some_more found_none starved is),
-  λ is. some_by found_none starved refl refl is,
+  λ is q. none_by q (eq_by_cmp nat_cmp q id) (some_more some_ran_out out_of_memory is),
+  λ is. some_by some_ran_out out_of_memory refl refl is,
 )
   where
     f : Bool → Connection → Connection
-    f = dead_or_ticked types ms
+    f = killed_or_ticked types ms
 
     which' : ℕ → Bool
-    which' q = cond (eq_by_cmp nat_cmp q id) starved (which q)
+    which' q = cond (eq_by_cmp nat_cmp q id) out_of_memory (which q)
 
     here : lists (id ∷ left) id ≡ true
     here = ap (λ (b : Bool). b || lists left id) (itself id)
 
-    now : (q : ℕ) → fin.get (ticked_at types ms starved after id) q ≡ cond (eq_by_cmp nat_cmp q id) (option_map (f starved) (fin.get after id)) (fin.get after q)
-    now q = got_where (f starved) after id q (fin.get after id) refl
+    now : (q : ℕ) → fin.get (ticked_at types ms out_of_memory after id) q ≡ cond (eq_by_cmp nat_cmp q id) (option_map (f out_of_memory) (fin.get after id)) (fin.get after q)
+    now q = got_where (f out_of_memory) after id q (fin.get after id) refl
 
     first : (q : ℕ) → eq_by_cmp nat_cmp q id ≡ true → lists left q ≡ false
     first q e = ap (lists left) (tied_same q id e) ∙ not_again id left (sorted_parts id left sorted).0
 
-    waits_by : (q : ℕ) (b : Bool) → eq_by_cmp nat_cmp q id ≡ b → lists left q ≡ true → (fin.get (ticked_at types ms starved after id) q ≡ fin.get before q) × (which' q ≡ false)
+    waits_by : (q : ℕ) (b : Bool) → eq_by_cmp nat_cmp q id ≡ b → lists left q ≡ true → (fin.get (ticked_at types ms out_of_memory after id) q ≡ fin.get before q) × (which' q ≡ false)
     waits_by q true e is = absurd (wrong (sym (first q e) ∙ is))
     waits_by q false e is =
         let was = waits q (ap (λ (b : Bool). b || lists left q) e ∙ is) in
-        (now q ∙ ap (λ (b : Bool). cond b (option_map (f starved) (fin.get after id)) (fin.get after q)) e ∙ was.0, ap (λ (b : Bool). cond b starved (which q)) e ∙ was.1)
+        (now q ∙ ap (λ (b : Bool). cond b (option_map (f out_of_memory) (fin.get after id)) (fin.get after q)) e ∙ was.0, ap (λ (b : Bool). cond b out_of_memory (which q)) e ∙ was.1)
 
-    had_by : (q : ℕ) (b : Bool) → eq_by_cmp nat_cmp q id ≡ b → lists left q ≡ false → fin.get (ticked_at types ms starved after id) q ≡ option_map (f (which' q)) (fin.get before q)
+    had_by : (q : ℕ) (b : Bool) → eq_by_cmp nat_cmp q id ≡ b → lists left q ≡ false → fin.get (ticked_at types ms out_of_memory after id) q ≡ option_map (f (which' q)) (fin.get before q)
     had_by q true e is =
-        now q ∙ ap (λ (b : Bool). cond b (option_map (f starved) (fin.get after id)) (fin.get after q)) e
-        ∙ ap (option_map (f starved)) (waits id here).0 ∙ ap (λ (k : ℕ). option_map (f starved) (fin.get before k)) (sym (tied_same q id e))
-        ∙ ap (λ (b : Bool). option_map (f (cond b starved (which q))) (fin.get before q)) (sym e)
+        now q ∙ ap (λ (b : Bool). cond b (option_map (f out_of_memory) (fin.get after id)) (fin.get after q)) e
+        ∙ ap (option_map (f out_of_memory)) (waits id here).0 ∙ ap (λ (k : ℕ). option_map (f out_of_memory) (fin.get before k)) (sym (tied_same q id e))
+        ∙ ap (λ (b : Bool). option_map (f (cond b out_of_memory (which q))) (fin.get before q)) (sym e)
     had_by q false e is =
-        now q ∙ ap (λ (b : Bool). cond b (option_map (f starved) (fin.get after id)) (fin.get after q)) e
+        now q ∙ ap (λ (b : Bool). cond b (option_map (f out_of_memory) (fin.get after id)) (fin.get after q)) e
         ∙ had q (ap (λ (b : Bool). b || lists left q) e ∙ is)
-        ∙ ap (λ (b : Bool). option_map (f (cond b starved (which q))) (fin.get before q)) (sym e)
+        ∙ ap (λ (b : Bool). option_map (f (cond b out_of_memory (which q))) (fin.get before q)) (sym e)
 
     due_by : (q : ℕ) (b : Bool) → eq_by_cmp nat_cmp q id ≡ b → which' q ≡ true → due_on ms before q ≡ true
     due_by q true e is =
-        ap (due_on ms before) (tied_same q id e) ∙ sym (ap (λ (o : Option Connection). unwrap_or (option_map (λ c. writes_at ms c.standing) o) false) (waits id here).0)
-        ∙ late (sym (ap (λ (b : Bool). cond b starved (which q)) e) ∙ is)
-    due_by q false e is = due q (sym (ap (λ (b : Bool). cond b starved (which q)) e) ∙ is)
+        ap (due_on ms before) (tied_same q id e) ∙ sym (ap (λ (o : Option Connection). unwrap_or (option_map (λ c. writes_at ms c.phase) o) false) (waits id here).0)
+        ∙ late (sym (ap (λ (b : Bool). cond b out_of_memory (which q)) e) ∙ is)
+    due_by q false e is = due q (sym (ap (λ (b : Bool). cond b out_of_memory (which q)) e) ∙ is)
 
-    none_by : (q : ℕ) (b : Bool) → (found_none ≡ false) × (starved ≡ false) → cond b starved (which q) ≡ false
+    none_by : (q : ℕ) (b : Bool) → (some_ran_out ≡ false) × (out_of_memory ≡ false) → cond b out_of_memory (which q) ≡ false
     none_by q true (one, more) = more
     none_by q false (one, more) = none one q
 
-    some_by : (x y : Bool) → found_none ≡ x → starved ≡ y → (found_none || starved) ≡ true → (q : ℕ) × (which' q ≡ true)
-    some_by x true ex ey is = (id, ap (λ (b : Bool). cond b starved (which id)) (itself id) ∙ ey)
+    some_by : (x y : Bool) → some_ran_out ≡ x → out_of_memory ≡ y → (some_ran_out || out_of_memory) ≡ true → (q : ℕ) × (which' q ≡ true)
+    some_by x true ex ey is = (id, ap (λ (b : Bool). cond b out_of_memory (which id)) (itself id) ∙ ey)
     some_by true false ex ey is = older (some ex)
       where
         older : (q : ℕ) × (which q ≡ true) → (q : ℕ) × (which' q ≡ true)
         older (q, was) = (q, by_id (eq_by_cmp nat_cmp q id) refl)
           where
-            by_id : (b : Bool) → eq_by_cmp nat_cmp q id ≡ b → cond (eq_by_cmp nat_cmp q id) starved (which q) ≡ true
+            by_id : (b : Bool) → eq_by_cmp nat_cmp q id ≡ b → cond (eq_by_cmp nat_cmp q id) out_of_memory (which q) ≡ true
             by_id true e = absurd (wrong (sym (waits q (ap (λ (b : Bool). b || lists left q) e)).1 ∙ was))
-            by_id false e = ap (λ (b : Bool). cond b starved (which q)) e ∙ was
+            by_id false e = ap (λ (b : Bool). cond b out_of_memory (which q)) e ∙ was
     some_by false false ex ey is = absurd (wrong (sym (ap₂ (λ (a b : Bool). a || b) ex ey) ∙ is))
 
-pub ticks_end : (types : List ServedShape) (ms : ℕ) (before after : Connections) (held : Found) (found_none : Bool) → HoldsAll types held after
-    → SoFar types ms before [] after found_none → TicksAll types ms before held found_none
-ticks_end types ms before after held found_none holds (which, waits, had, due, none, some) =
-    let f = λ (q : ℕ) (c : Connection). dead_or_ticked types ms (which q) c in
+pub ticks_end : (types : List ServedShape) (ms : ℕ) (before after : Connections) (held : Found) (some_ran_out : Bool) → ConnectionsRepresent types held after
+    → SoFar types ms before [] after some_ran_out → TicksAll types ms before held some_ran_out
+ticks_end types ms before after held some_ran_out holds (which, waits, had, due, none, some) =
+    let f = λ (q : ℕ) (c : Connection). killed_or_ticked types ms (which q) c in
     let same : after ≡ ticked_all types ms which before =
     fin.same_map nat_cmp_total fin.nat_cmp-IsAntisymmetric _ _ (λ q. had q refl ∙ sym (got_each f before q)) in (
       which,
-      subst (HoldsAll types held) same holds,
+      subst (ConnectionsRepresent types held) same holds,
       none,
       λ is. let found = some is in (found.0, found.1, due found.0 found.1),
     )
@@ -258,9 +258,9 @@ new_each f all q =
 -- a tick opens none of them
 each_opens : (types : List ServedShape) (ms : ℕ) (which : ℕ → Bool) (all : Connections) (q : ℕ) → open_on (ticked_all types ms which all) q ≡ true → open_on all q ≡ true
 each_opens types ms which all q now =
-    go (fin.get all q) (sym (ap open_in (got_each (λ k c. dead_or_ticked types ms (which k) c) all q)) ∙ now)
+    go (fin.get all q) (sym (ap open_in (got_each (λ k c. killed_or_ticked types ms (which k) c) all q)) ∙ now)
   where
-    go : (o : Option Connection) → open_in (option_map (λ c. dead_or_ticked types ms (which q) c) o) ≡ true → open_in o ≡ true
+    go : (o : Option Connection) → open_in (option_map (λ c. killed_or_ticked types ms (which q) c) o) ≡ true → open_in o ≡ true
     go None is = is
     go (Some c) is = tick_opens types ms (which q) c is
 
@@ -278,9 +278,9 @@ keeps_true : (b c : Bool) → (b ≡ true → c ≡ true) → b && c ≡ b
 keeps_true true c then = then refl
 keeps_true false c then = refl
 
-pub ticks_in : (s : State) (ms : ℕ) (shared : Shared) (old new : Kept) (found_none : Bool) → Represents shared old s → TicksAll s.types ms s.connections (found new) found_none
-    → new.open_ids.keys ≡ filter (open_held new.held) old.open_ids.keys → new.highest ≡ old.highest → IsApart new → TicksIn shared ms s new found_none
-ticks_in s ms shared old new found_none held (which, holds, none, some) kept same apart = (
+pub ticks_in : (s : State) (ms : ℕ) (shared : Shared) (old new : Kept) (some_ran_out : Bool) → PartsRepresent shared old s → TicksAll s.types ms s.connections (found new) some_ran_out
+    → new.open_ids.keys ≡ filter (open_held new.held) old.open_ids.keys → new.highest ≡ old.highest → IsApart new → TicksIn shared ms s new some_ran_out
+ticks_in s ms shared old new some_ran_out held (which, holds, none, some) kept same apart = (
   which,
   record {
     machine = held.machine;
@@ -294,7 +294,7 @@ ticks_in s ms shared old new found_none held (which, holds, none, some) kept sam
 )
   where
     f : ℕ → Connection → Connection
-    f q c = dead_or_ticked s.types ms (which q) c
+    f q c = killed_or_ticked s.types ms (which q) c
 
     after : Connections
     after = ticked_all s.types ms which s.connections
@@ -316,23 +316,23 @@ ticks_refused s ms last_tick same back = ap (λ (b : Bool). cond b (Some tick_ba
 
 -- the hub is in this state
 abbrev pub IsInState : Shared → Kept → ℕ → State → Type 0
-IsInState shared k last_tick s = Represents shared k s × (last_tick ≡ s.last_tick)
+IsInState shared k last_tick s = PartsRepresent shared k s × (last_tick ≡ s.last_tick)
 
-pub ticks_well : (s : State) (ms last_tick : ℕ) (shared : Shared) (new : Kept) (found_none : Bool) → last_tick ≡ s.last_tick → nat_lt ms last_tick ≡ false → TicksIn shared ms s new found_none → found_none ≡ false
+pub ticks_well : (s : State) (ms last_tick : ℕ) (shared : Shared) (new : Kept) (some_ran_out : Bool) → last_tick ≡ s.last_tick → nat_lt ms last_tick ≡ false → TicksIn shared ms s new some_ran_out → some_ran_out ≡ false
     → (refusal s (ticks ms) ≡ None) × (t : State) × Steps s (ticks ms) t × IsInState shared new ms t
-ticks_well s ms last_tick shared new found_none same forward (which, held, none, some) fine =
+ticks_well s ms last_tick shared new some_ran_out same forward (which, held, none, some) fine =
     let g = λ (q : ℕ) (c : Connection). with_turn (ticked s.types ms) c in
     let free = not_back s ms last_tick same forward in
     let all : ticked_all s.types ms which s.connections ≡ each g s.connections =
-    each_same _ g s.connections (λ q c. ap (λ (b : Bool). dead_or_ticked s.types ms b c) (none fine q)) in (
+    each_same _ g s.connections (λ q c. ap (λ (b : Bool). killed_or_ticked s.types ms b c) (none fine q)) in (
       free,
       with_tick s ms (each g s.connections),
       (undecided, refl, sym (ap (λ (o : Option Refusal). unless_refused o s (with_tick s ms (each g s.connections))) free)),
       subst (λ (cs : Connections). IsInState shared new ms (with_tick s ms cs)) all (held, refl),
     )
 
-any_entry : (ms : ℕ) (which : ℕ → Bool) (q : ℕ) → which q ≡ true → (es : Entries) → unwrap_or (option_map (λ c. writes_at ms c.standing) (entries.find nat_cmp q es)) false ≡ true
-    → list_any (λ e. which e.0 && writes_at ms e.1.standing) es ≡ true
+any_entry : (ms : ℕ) (which : ℕ → Bool) (q : ℕ) → which q ≡ true → (es : Entries) → unwrap_or (option_map (λ c. writes_at ms c.phase) (entries.find nat_cmp q es)) false ≡ true
+    → list_any (λ e. which e.0 && writes_at ms e.1.phase) es ≡ true
 any_entry ms which q found [] due = absurd (wrong due)
 any_entry ms which q found (e ∷ es) due = go (eq_by_cmp nat_cmp q e.0) (tied_same q e.0) due (any_entry ms which q found es)
   where
@@ -340,23 +340,23 @@ any_entry ms which q found (e ∷ es) due = go (eq_by_cmp nat_cmp q e.0) (tied_s
     later true = refl
     later false = refl
 
-    go : (b : Bool) → (b ≡ true → q ≡ e.0) → unwrap_or (option_map (λ c. writes_at ms c.standing) (cond b (Some e.1) (entries.find nat_cmp q es))) false ≡ true
-        → (unwrap_or (option_map (λ c. writes_at ms c.standing) (entries.find nat_cmp q es)) false ≡ true → list_any (λ e. which e.0 && writes_at ms e.1.standing) es ≡ true)
-        → (which e.0 && writes_at ms e.1.standing) || list_any (λ e. which e.0 && writes_at ms e.1.standing) es ≡ true
+    go : (b : Bool) → (b ≡ true → q ≡ e.0) → unwrap_or (option_map (λ c. writes_at ms c.phase) (cond b (Some e.1) (entries.find nat_cmp q es))) false ≡ true
+        → (unwrap_or (option_map (λ c. writes_at ms c.phase) (entries.find nat_cmp q es)) false ≡ true → list_any (λ e. which e.0 && writes_at ms e.1.phase) es ≡ true)
+        → (which e.0 && writes_at ms e.1.phase) || list_any (λ e. which e.0 && writes_at ms e.1.phase) es ≡ true
     go true is here rest =
-        ap₂ (λ (a b : Bool). (a && b) || list_any (λ x. which x.0 && writes_at ms x.1.standing) es) (sym (ap which (is refl)) ∙ found) here
-    go false is there rest = ap (λ (b : Bool). (which e.0 && writes_at ms e.1.standing) || b) (rest there) ∙ later (which e.0 && writes_at ms e.1.standing)
+        ap₂ (λ (a b : Bool). (a && b) || list_any (λ x. which x.0 && writes_at ms x.1.phase) es) (sym (ap which (is refl)) ∙ found) here
+    go false is there rest = ap (λ (b : Bool). (which e.0 && writes_at ms e.1.phase) || b) (rest there) ∙ later (which e.0 && writes_at ms e.1.phase)
 
-pub ticks_starve : (s : State) (ms last_tick : ℕ) (shared : Shared) (new : Kept) (found_none : Bool) → last_tick ≡ s.last_tick → nat_lt ms last_tick ≡ false → TicksIn shared ms s new found_none → found_none ≡ true
-    → (which : ℕ → Bool) × (t : State) × Starves s (ticks ms) which t × IsInState shared new ms t
-ticks_starve s ms last_tick shared new found_none same forward (which, held, none, some) starved =
-    let found = some starved in (
+pub ticks_run_out : (s : State) (ms last_tick : ℕ) (shared : Shared) (new : Kept) (some_ran_out : Bool) → last_tick ≡ s.last_tick → nat_lt ms last_tick ≡ false → TicksIn shared ms s new some_ran_out → some_ran_out ≡ true
+    → (which : ℕ → Bool) × (t : State) × RunsOutOfMemory s (ticks ms) which t × IsInState shared new ms t
+ticks_run_out s ms last_tick shared new some_ran_out same forward (which, held, none, some) out_of_memory =
+    let found = some out_of_memory in (
       which,
       with_tick s ms (ticked_all s.types ms which s.connections),
       (
         not_back s ms last_tick same forward,
         any_entry ms which found.0 found.1 (fin.entries s.connections)
-            (sym (ap (λ (o : Option Connection). unwrap_or (option_map (λ c. writes_at ms c.standing) o) false) (fin.get-entries s.connections found.0)) ∙ found.2),
+            (sym (ap (λ (o : Option Connection). unwrap_or (option_map (λ c. writes_at ms c.phase) o) false) (fin.get-entries s.connections found.0)) ∙ found.2),
         refl,
       ),
       (held, refl),

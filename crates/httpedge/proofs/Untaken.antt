@@ -7,11 +7,11 @@ use Rattle.std.specs.Ordering.{nat_cmp, eq_by_cmp}
 use Rattle.api_types.specs.TypesFile.{ServedShape}
 use Rattle.history.specs.History.{History}
 use Rattle.requests.specs.Asks.{CallDecision}
-use Rattle.httpedge.specs.Connections.{AllIsOut, Connection, Connections, IsUntaken, Standing, waiting, watching, ended, gone, each, has_gone, is_open, left_out, opened, out_of, out_on, with_standing, with_written, written_on}
+use Rattle.httpedge.specs.Connections.{AllIsOut, Connection, Connections, IsUntaken, Phase, waiting, watching, ended, gone, each, has_gone, is_open, left_out, new_connection, out_of, out_on, with_phase, with_written, written_on}
 use Rattle.requests.specs.Decision.{undecided, refused, accepted}
 use Rattle.requests.specs.Refusals.{as_denied, too_many_connections}
-use Rattle.httpedge.specs.Runs.{Follows, Happening, LeavesOut, Steps, happens, peer_goes, starves, takes}
-use Rattle.httpedge.specs.Steps.{Event, Refusal, State, opens, comes, goes, pumps, ticks, compacts, retypes, after_turn, answer_standing, by_connection, connection_after, dead, dead_or_ticked, opening, received_by, refusal, standing_after, start, starved, carried_out, unless_refused, with_turn, writes_at}
+use Rattle.httpedge.specs.Runs.{Follows, Action, KeepsOutput, Steps, happens, peer_goes, runs_out_of_memory, takes}
+use Rattle.httpedge.specs.Steps.{Event, Refusal, State, opens, comes, goes, pumps, ticks, compacts, retypes, after_turn, answer_phase, by_connection, connection_after, killed, killed_or_ticked, opening, received_by, refusal, phase_after, start, out_of_memory, applied_event, unless_refused, with_turn, writes_at}
 use Rattle.requests.specs.Replies.{refusal_reply}
 use Rattle.httpedge.specs.Watches.{Turn, Watch, pumped, ticked}
 use Rattle.watchline.specs.Opening.{WatchFrom}
@@ -22,36 +22,36 @@ use Rattle.httpedge.proofs.OtherTypes.{same_connections}
 
 -- ---- one connection
 
-written_by : (st : Standing) (taken : ℕ) (written : List ℕ) → taken ≡ 0 → has_gone st ≡ false → left_out st (drop taken written) ≡ written
-written_by (waiting front) taken written none stays = ap (λ (k : ℕ). drop k written) none
+written_by : (st : Phase) (taken : ℕ) (written : List ℕ) → taken ≡ 0 → has_gone st ≡ false → left_out st (drop taken written) ≡ written
+written_by (waiting prefix) taken written none stays = ap (λ (k : ℕ). drop k written) none
 written_by (watching w) taken written none stays = ap (λ (k : ℕ). drop k written) none
 written_by ended taken written none stays = ap (λ (k : ℕ). drop k written) none
 written_by (gone had_ended) taken written none stays = absurd cc
 
 out_is_written : (o : Option Connection) (none : List ℕ) → IsUntaken o → unwrap_or (option_map out_of o) none ≡ unwrap_or (option_map (λ c. c.written) o) none
 out_is_written None none is = refl
-out_is_written (Some c) none is = written_by c.standing c.taken c.written is.0 is.1
+out_is_written (Some c) none is = written_by c.phase c.taken c.written is.0 is.1
 
-opened_untaken : (full : Bool) (bytes : List ℕ) → IsUntaken (Some (cond full (with_written opened bytes ended) opened))
+opened_untaken : (full : Bool) (bytes : List ℕ) → IsUntaken (Some (cond full (with_written new_connection bytes ended) new_connection))
 opened_untaken true bytes = (refl, refl)
 opened_untaken false bytes = (refl, refl)
 
-answer_here : (last_tick : ℕ) (o : Option WatchFrom) → has_gone (answer_standing last_tick o) ≡ false
+answer_here : (last_tick : ℕ) (o : Option WatchFrom) → has_gone (answer_phase last_tick o) ≡ false
 answer_here last_tick None = refl
 answer_here last_tick (Some from) = refl
 
-after_untaken : (types : List ServedShape) (m : History) (last_tick : ℕ) (c : Connection) (bytes : List ℕ) (asked : CallDecision) → IsUntaken (Some c)
-    → IsUntaken (Some (connection_after types m last_tick c bytes asked))
+after_untaken : (types : List ServedShape) (m : History) (last_tick : ℕ) (c : Connection) (bytes : List ℕ) (decision : CallDecision) → IsUntaken (Some c)
+    → IsUntaken (Some (connection_after types m last_tick c bytes decision))
 after_untaken types m last_tick c bytes undecided is = (is.0, refl)
 after_untaken types m last_tick c bytes (refused d) is = (is.0, refl)
 after_untaken types m last_tick c bytes (accepted call) is = (is.0, answer_here last_tick (planned types m call).answer.watch)
 
-stays_here : (o : Option Watch) → has_gone (standing_after o) ≡ false
+stays_here : (o : Option Watch) → has_gone (phase_after o) ≡ false
 stays_here None = refl
 stays_here (Some w) = refl
 
-turn_untaken : (turn : Watch → Turn) (c : Connection) (st : Standing) → IsUntaken (Some c) → IsUntaken (Some (after_turn turn c st))
-turn_untaken turn c (waiting front) is = is
+turn_untaken : (turn : Watch → Turn) (c : Connection) (st : Phase) → IsUntaken (Some c) → IsUntaken (Some (after_turn turn c st))
+turn_untaken turn c (waiting prefix) is = is
 turn_untaken turn c (watching w) is = (is.0, stays_here (turn w).next)
 turn_untaken turn c ended is = is
 turn_untaken turn c (gone had_ended) is = is
@@ -83,52 +83,52 @@ each_one : (f : ℕ → Connection → Connection) (all : Connections) (q : ℕ)
     → IsUntaken (fin.get (each f all) q)
 each_one f all q stays out = subst IsUntaken (sym (got_each f all q)) (each_by f q (fin.get all q) stays out)
 
-received_one : (s : State) (id q : ℕ) (c : Connection) (st : Standing) (bytes : List ℕ) (asked : CallDecision) → fin.get s.connections id ≡ Some c → IsUntaken (fin.get s.connections q)
-    → IsUntaken (fin.get (received_by s id c st bytes asked).connections q)
-received_one s id q c (waiting front) bytes asked got out =
-    put_one s.connections id q _ (λ same. after_untaken s.types s.machine s.last_tick c _ asked (this_one s.connections id q c got out same)) out
-received_one s id q c (watching w) bytes asked got out = out
-received_one s id q c ended bytes asked got out = out
-received_one s id q c (gone had_ended) bytes asked got out = out
+received_one : (s : State) (id q : ℕ) (c : Connection) (st : Phase) (bytes : List ℕ) (decision : CallDecision) → fin.get s.connections id ≡ Some c → IsUntaken (fin.get s.connections q)
+    → IsUntaken (fin.get (received_by s id c st bytes decision).connections q)
+received_one s id q c (waiting prefix) bytes decision got out =
+    put_one s.connections id q _ (λ same. after_untaken s.types s.machine s.last_tick c _ decision (this_one s.connections id q c got out same)) out
+received_one s id q c (watching w) bytes decision got out = out
+received_one s id q c ended bytes decision got out = out
+received_one s id q c (gone had_ended) bytes decision got out = out
 
-carried_one : (s : State) (e : Event) (asked : CallDecision) (q : ℕ) → e ≢ goes q → IsUntaken (fin.get s.connections q) → IsUntaken (fin.get (carried_out s e asked).connections q)
-carried_one s (opens id) asked q stays out = put_one s.connections id q (opening s.connections) (λ same. opened_untaken _ (refusal_reply (as_denied too_many_connections))) out
-carried_one s (comes id bytes) asked q stays out = by_one s q (fin.get s.connections id) _ out (λ c got. received_one s id q c c.standing bytes asked got out)
-carried_one s (goes id) asked q stays out = by_one s q (fin.get s.connections id) _ out (λ c got. put_one s.connections id q _ (λ same. absurd (stays (ap goes (sym same)))) out)
-carried_one s (pumps id max) asked q stays out =
+carried_one : (s : State) (e : Event) (decision : CallDecision) (q : ℕ) → e ≢ goes q → IsUntaken (fin.get s.connections q) → IsUntaken (fin.get (applied_event s e decision).connections q)
+carried_one s (opens id) decision q stays out = put_one s.connections id q (opening s.connections) (λ same. opened_untaken _ (refusal_reply (as_denied too_many_connections))) out
+carried_one s (comes id bytes) decision q stays out = by_one s q (fin.get s.connections id) _ out (λ c got. received_one s id q c c.phase bytes decision got out)
+carried_one s (goes id) decision q stays out = by_one s q (fin.get s.connections id) _ out (λ c got. put_one s.connections id q _ (λ same. absurd (stays (ap goes (sym same)))) out)
+carried_one s (pumps id max) decision q stays out =
     let turn = pumped s.machine max in
-    by_one s q (fin.get s.connections id) _ out (λ c got. put_one s.connections id q (with_turn turn c) (λ same. turn_untaken turn c c.standing (this_one s.connections id q c got out same)) out)
-carried_one s (ticks ms) asked q stays out = each_one (λ id c. with_turn (ticked s.types ms) c) s.connections q (λ c is. turn_untaken (ticked s.types ms) c c.standing is) out
-carried_one s (compacts c) asked q stays out = out
-carried_one s (retypes file) asked q stays out = subst (λ (all : Connections). IsUntaken (fin.get all q)) (sym (same_connections s (retyping s.types s.machine file))) out
+    by_one s q (fin.get s.connections id) _ out (λ c got. put_one s.connections id q (with_turn turn c) (λ same. turn_untaken turn c c.phase (this_one s.connections id q c got out same)) out)
+carried_one s (ticks ms) decision q stays out = each_one (λ id c. with_turn (ticked s.types ms) c) s.connections q (λ c is. turn_untaken (ticked s.types ms) c c.phase is) out
+carried_one s (compacts c) decision q stays out = out
+carried_one s (retypes file) decision q stays out = subst (λ (all : Connections). IsUntaken (fin.get all q)) (sym (same_connections s (retyping s.types s.machine file))) out
 
 unless_one : (s t : State) (o : Option Refusal) (q : ℕ) → IsUntaken (fin.get t.connections q) → IsUntaken (fin.get s.connections q) → IsUntaken (fin.get (unless_refused o s t).connections q)
 unless_one s t None q then out = then
 unless_one s t (Some why) q then out = out
 
-dead_by : (b : Bool) (c : Connection) → IsUntaken (Some c) → IsUntaken (Some (cond b (with_standing c ended) c))
+dead_by : (b : Bool) (c : Connection) → IsUntaken (Some c) → IsUntaken (Some (cond b (with_phase c ended) c))
 dead_by true c is = (is.0, refl)
 dead_by false c is = is
 
-dead_or : (types : List ServedShape) (ms : ℕ) (b : Bool) (c : Connection) → IsUntaken (Some c) → IsUntaken (Some (cond b (dead c) (with_turn (ticked types ms) c)))
-dead_or types ms true c is = dead_by (is_open c.standing) c is
-dead_or types ms false c is = turn_untaken (ticked types ms) c c.standing is
+dead_or : (types : List ServedShape) (ms : ℕ) (b : Bool) (c : Connection) → IsUntaken (Some c) → IsUntaken (Some (cond b (killed c) (with_turn (ticked types ms) c)))
+dead_or types ms true c is = dead_by (is_open c.phase) c is
+dead_or types ms false c is = turn_untaken (ticked types ms) c c.phase is
 
-starved_one : (s : State) (e : Event) (which : ℕ → Bool) (q : ℕ) → IsUntaken (fin.get s.connections q) → IsUntaken (fin.get (starved s e which).connections q)
-starved_one s (opens id) which q out = out
-starved_one s (comes id bytes) which q out =
-    by_one s q (fin.get s.connections id) _ out (λ c got. put_one s.connections id q _ (λ same. dead_by (is_open c.standing) c (this_one s.connections id q c got out same)) out)
-starved_one s (goes id) which q out = out
-starved_one s (pumps id max) which q out =
-    by_one s q (fin.get s.connections id) _ out (λ c got. put_one s.connections id q _ (λ same. dead_by (is_open c.standing) c (this_one s.connections id q c got out same)) out)
-starved_one s (ticks ms) which q out = each_one (λ id c. dead_or_ticked s.types ms (which id) c) s.connections q (λ c is. dead_or s.types ms (which q && writes_at ms c.standing) c is) out
-starved_one s (compacts c) which q out = out
-starved_one s (retypes file) which q out = out
+out_of_memory_one : (s : State) (e : Event) (which : ℕ → Bool) (q : ℕ) → IsUntaken (fin.get s.connections q) → IsUntaken (fin.get (out_of_memory s e which).connections q)
+out_of_memory_one s (opens id) which q out = out
+out_of_memory_one s (comes id bytes) which q out =
+    by_one s q (fin.get s.connections id) _ out (λ c got. put_one s.connections id q _ (λ same. dead_by (is_open c.phase) c (this_one s.connections id q c got out same)) out)
+out_of_memory_one s (goes id) which q out = out
+out_of_memory_one s (pumps id max) which q out =
+    by_one s q (fin.get s.connections id) _ out (λ c got. put_one s.connections id q _ (λ same. dead_by (is_open c.phase) c (this_one s.connections id q c got out same)) out)
+out_of_memory_one s (ticks ms) which q out = each_one (λ id c. killed_or_ticked s.types ms (which id) c) s.connections q (λ c is. dead_or s.types ms (which q && writes_at ms c.phase) c is) out
+out_of_memory_one s (compacts c) which q out = out
+out_of_memory_one s (retypes file) which q out = out
 
-pub one_out : (s t : State) (h : Happening) (q : ℕ) → LeavesOut h q → IsUntaken (fin.get s.connections q) → Follows s h t → IsUntaken (fin.get t.connections q)
-one_out s t (happens e) q stays out (asked, asks, is) =
-    subst (λ (x : State). IsUntaken (fin.get x.connections q)) (sym is) (unless_one s (carried_out s e asked) (refusal s e) q (carried_one s e asked q stays out) out)
-one_out s t (starves e which) q stays out (unrefused, memory, is) = subst (λ (x : State). IsUntaken (fin.get x.connections q)) (sym is) (starved_one s e which q out)
+pub one_out : (s t : State) (h : Action) (q : ℕ) → KeepsOutput h q → IsUntaken (fin.get s.connections q) → Follows s h t → IsUntaken (fin.get t.connections q)
+one_out s t (happens e) q stays out (decision, asks, is) =
+    subst (λ (x : State). IsUntaken (fin.get x.connections q)) (sym is) (unless_one s (applied_event s e decision) (refusal s e) q (carried_one s e decision q stays out) out)
+one_out s t (runs_out_of_memory e which) q stays out (unrefused, memory, is) = subst (λ (x : State). IsUntaken (fin.get x.connections q)) (sym is) (out_of_memory_one s e which q out)
 one_out s t (takes id n) q stays out is =
     subst (λ (x : State). IsUntaken (fin.get x.connections q)) (sym is)
     (by_one s q (fin.get s.connections id) _ out (λ c got. put_one s.connections id q _ (λ same. absurd (stays same)) out))

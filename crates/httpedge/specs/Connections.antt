@@ -7,17 +7,17 @@ use Rattle.httpedge.specs.Watches.{Watch}
 
 -- what has become of a connection: these bytes came and what they ask is undecided; it watches; nothing more is written on it;
 -- its peer has gone, and it had ended before that or not
-pub data Standing : Type 0 where
-  waiting : List ℕ → Standing
-  watching : Watch → Standing
-  ended : Standing
-  gone : Bool → Standing
+pub data Phase : Type 0 where
+  waiting : List ℕ → Phase
+  watching : Watch → Phase
+  ended : Phase
+  gone : Bool → Phase
 
 -- all that was written on it, how many bytes of that were taken, and how it stands
 pub record Connection : Type 0 where
   pub written : List ℕ
   pub taken : ℕ
-  pub standing : Standing
+  pub phase : Phase
 
 -- by their ids: each that was ever opened
 abbrev pub Connections : Type 0
@@ -26,49 +26,49 @@ Connections = fin.FinMap nat_cmp Connection
 -- ---- one connection
 
 -- nothing came on it yet
-abbrev pub opened : Connection
-opened = record { written = []; taken = 0; standing = waiting [] }
+abbrev pub new_connection : Connection
+new_connection = record { written = []; taken = 0; phase = waiting [] }
 
-abbrev pub with_standing : Connection → Standing → Connection
-with_standing c standing = record c { standing = standing }
+abbrev pub with_phase : Connection → Phase → Connection
+with_phase c phase = record c { phase = phase }
 
 -- more is written on it, and then it stands so
-abbrev pub with_written : Connection → List ℕ → Standing → Connection
-with_written c bytes standing = record c { written = c.written ++ bytes; standing = standing }
+abbrev pub with_written : Connection → List ℕ → Phase → Connection
+with_written c bytes phase = record c { written = c.written ++ bytes; phase = phase }
 
 -- ---- how it stands
 
 -- an end stays when the peer goes
-abbrev pub has_ended : Standing → Bool
+abbrev pub has_ended : Phase → Bool
 has_ended ended = true
 has_ended (gone had_ended) = had_ended
 has_ended _ = false
 
 -- it is open, and what its bytes ask is undecided
-abbrev pub is_waiting : Standing → Bool
+abbrev pub is_waiting : Phase → Bool
 is_waiting (waiting bytes) = true
 is_waiting _ = false
 
-abbrev pub is_watching : Standing → Bool
+abbrev pub is_watching : Phase → Bool
 is_watching (watching w) = true
 is_watching _ = false
 
-abbrev pub is_open : Standing → Bool
+abbrev pub is_open : Phase → Bool
 is_open (waiting bytes) = true
 is_open (watching w) = true
 is_open _ = false
 
-abbrev pub has_gone : Standing → Bool
+abbrev pub has_gone : Phase → Bool
 has_gone (gone had_ended) = true
 has_gone _ = false
 
 -- what was written and not taken; nothing where the peer has gone
-abbrev pub left_out : Standing → List ℕ → List ℕ
+abbrev pub left_out : Phase → List ℕ → List ℕ
 left_out (gone had_ended) out = []
 left_out _ out = out
 
 abbrev pub out_of : Connection → List ℕ
-out_of c = left_out c.standing (drop c.taken c.written)
+out_of c = left_out c.phase (drop c.taken c.written)
 
 -- the next n bytes of these are taken, at most all
 abbrev pub with_taken : Connection → ℕ → Connection
@@ -97,7 +97,7 @@ abbrev pub next_id : Connections → Option ℕ
 next_id all = id_after (highest (fin.keys all))
 
 abbrev pub open_count : Connections → ℕ
-open_count all = length (filter (λ c. is_open c.standing) (fin.values all))
+open_count all = length (filter (λ c. is_open c.phase) (fin.values all))
 
 -- how many may be open, by this server's own limit
 abbrev pub max_open : ℕ
@@ -117,25 +117,25 @@ abbrev pub written_on : Connections → ℕ → List ℕ
 written_on all id = unwrap_or (option_map (λ c. c.written) (fin.get all id)) []
 
 abbrev pub ended_on : Connections → ℕ → Bool
-ended_on all id = unwrap_or (option_map (λ c. has_ended c.standing) (fin.get all id)) false
+ended_on all id = unwrap_or (option_map (λ c. has_ended c.phase) (fin.get all id)) false
 
 abbrev pub open_on : Connections → ℕ → Bool
-open_on all id = unwrap_or (option_map (λ c. is_open c.standing) (fin.get all id)) false
+open_on all id = unwrap_or (option_map (λ c. is_open c.phase) (fin.get all id)) false
 
 abbrev pub waiting_on : Connections → ℕ → Bool
-waiting_on all id = unwrap_or (option_map (λ c. is_waiting c.standing) (fin.get all id)) false
+waiting_on all id = unwrap_or (option_map (λ c. is_waiting c.phase) (fin.get all id)) false
 
 abbrev pub watching_on : Connections → ℕ → Bool
-watching_on all id = unwrap_or (option_map (λ c. is_watching c.standing) (fin.get all id)) false
+watching_on all id = unwrap_or (option_map (λ c. is_watching c.phase) (fin.get all id)) false
 
 abbrev pub gone_on : Connections → ℕ → Bool
-gone_on all id = unwrap_or (option_map (λ c. has_gone c.standing) (fin.get all id)) false
+gone_on all id = unwrap_or (option_map (λ c. has_gone c.phase) (fin.get all id)) false
 
 -- ---- nothing was taken
 
 abbrev pub IsUntaken : Option Connection → Type 0
 IsUntaken None = ⊤
-IsUntaken (Some c) = (c.taken ≡ 0) × (has_gone c.standing ≡ false)
+IsUntaken (Some c) = (c.taken ≡ 0) × (has_gone c.phase ≡ false)
 
 -- nothing was taken of any connection, and no peer has gone
 abbrev pub AllIsOut : Connections → Type 0

@@ -7,47 +7,47 @@ use Rattle.api_types.specs.TypesFile.{ServedShape}
 use Rattle.history.specs.History.{Change}
 use Rattle.history.specs.Whole.{IsGapless}
 use Rattle.requests.specs.Asks.{CallDecision, Asks}
-use Rattle.httpedge.specs.Connections.{Standing, waiting}
+use Rattle.httpedge.specs.Connections.{Phase, waiting}
 use Rattle.requests.specs.Decision.{undecided}
-use Rattle.httpedge.specs.Steps.{State, Event, opens, comes, goes, pumps, ticks, compacts, retypes, stepped, Starves, with_bytes_taken}
+use Rattle.httpedge.specs.Steps.{State, Event, opens, comes, goes, pumps, ticks, compacts, retypes, stepped, RunsOutOfMemory, with_bytes_taken}
 
 -- ---- what an event asks
 
 -- the bytes that came before on a connection that waits, and these
-abbrev pub all_bytes : Standing → List ℕ → Option (List ℕ)
-all_bytes (waiting front) bytes = Some (front ++ bytes)
+abbrev pub all_bytes : Phase → List ℕ → Option (List ℕ)
+all_bytes (waiting prefix) bytes = Some (prefix ++ bytes)
 all_bytes _ bytes = None
 
 -- all the bytes of the connection on which an event brings some, where it waits for them
 abbrev pub bytes_at : State → Event → Option (List ℕ)
-bytes_at s (comes id bytes) = option_and_then (λ c. all_bytes c.standing bytes) (fin.get s.connections id)
+bytes_at s (comes id bytes) = option_and_then (λ c. all_bytes c.phase bytes) (fin.get s.connections id)
 bytes_at s _ = None
 
 -- what bytes ask; where none came nothing is decided
 abbrev pub AsksIf : State → Option (List ℕ) → CallDecision → Type 0
-AsksIf s None asked = asked ≡ undecided
-AsksIf s (Some bytes) asked = Asks s.types bytes asked
+AsksIf s None decision = decision ≡ undecided
+AsksIf s (Some bytes) decision = Asks s.types bytes decision
 
 -- ---- one event
 
 -- the event leads to this state
 abbrev pub Steps : State → Event → State → Type 0
-Steps s e t = (asked : CallDecision) × AsksIf s (bytes_at s e) asked × (t ≡ stepped s e asked)
+Steps s e t = (decision : CallDecision) × AsksIf s (bytes_at s e) decision × (t ≡ stepped s e decision)
 
 -- ---- events in turn
 
 -- what happens to a hub: an event; one that finds no memory, at a tick on these connections; the next n bytes of a connection are taken
-pub data Happening : Type 0 where
-  happens : Event → Happening
-  starves : Event → (ℕ → Bool) → Happening
-  takes : ℕ → ℕ → Happening
+pub data Action : Type 0 where
+  happens : Event → Action
+  runs_out_of_memory : Event → (ℕ → Bool) → Action
+  takes : ℕ → ℕ → Action
 
-abbrev pub Follows : State → Happening → State → Type 0
+abbrev pub Follows : State → Action → State → Type 0
 Follows s (happens e) t = Steps s e t
-Follows s (starves e found_none) t = Starves s e found_none t
+Follows s (runs_out_of_memory e some_ran_out) t = RunsOutOfMemory s e some_ran_out t
 Follows s (takes id n) t = t ≡ with_bytes_taken s id n
 
-abbrev pub Runs : State → List Happening → State → Type 0
+abbrev pub Runs : State → List Action → State → Type 0
 Runs s [] t = t ≡ s
 Runs s (h ∷ hs) t = (mid : State) × Follows s h mid × Runs mid hs t
 
@@ -74,14 +74,14 @@ bytes_of (comes id bytes) = bytes
 bytes_of _ = []
 
 -- the same of what happens
-abbrev pub happens_on : Happening → Subject
+abbrev pub happens_on : Action → Subject
 happens_on (happens e) = subject e
-happens_on (starves e found_none) = subject e
+happens_on (runs_out_of_memory e some_ran_out) = subject e
 happens_on (takes id n) = connection id
 
-abbrev pub came : Happening → List ℕ
+abbrev pub came : Action → List ℕ
 came (happens e) = bytes_of e
-came (starves e found_none) = bytes_of e
+came (runs_out_of_memory e some_ran_out) = bytes_of e
 came (takes id n) = []
 
 -- it is not of this connection
@@ -90,16 +90,16 @@ IsElsewhere (connection id) other = other ≢ id
 IsElsewhere all_connections other = ⊥
 IsElsewhere no_connection other = ⊤
 
-abbrev pub HappensElsewhere : Happening → ℕ → Type 0
+abbrev pub HappensElsewhere : Action → ℕ → Type 0
 HappensElsewhere h other = IsElsewhere (happens_on h) other
 
 -- ---- what is out of a connection
 
 -- no bytes are taken of this connection, and its peer doesn't go
-abbrev pub LeavesOut : Happening → ℕ → Type 0
-LeavesOut (happens e) q = e ≢ goes q
-LeavesOut (starves e found_none) q = ⊤
-LeavesOut (takes id n) q = q ≢ id
+abbrev pub KeepsOutput : Action → ℕ → Type 0
+KeepsOutput (happens e) q = e ≢ goes q
+KeepsOutput (runs_out_of_memory e some_ran_out) q = ⊤
+KeepsOutput (takes id n) q = q ≢ id
 
 -- a peer goes
 abbrev pub peer_goes : Event → Bool

@@ -12,7 +12,7 @@ use Rattle.verbs.specs.Machine.{after}
 use Rattle.verbs.specs.Retyping.{RetypeRefusal, retyped, retyping}
 use Rattle.verbs.specs.Step.{planned}
 use Rattle.requests.specs.Asks.{CallDecision}
-use Rattle.httpedge.specs.Connections.{Connection, Connections, Standing, waiting, watching, ended, gone, opened, with_standing, with_written, with_taken, has_ended, is_known, is_new, is_open, open_count, max_open, each, waiting_on, watching_on}
+use Rattle.httpedge.specs.Connections.{Connection, Connections, Phase, waiting, watching, ended, gone, new_connection, with_phase, with_written, with_taken, has_ended, is_known, is_new, is_open, open_count, max_open, each, waiting_on, watching_on}
 use Rattle.requests.specs.Decision.{undecided, refused, accepted}
 use Rattle.requests.specs.Refusals.{as_denied, too_many_connections}
 use Rattle.requests.specs.Replies.{answer_bytes, refusal_reply}
@@ -92,21 +92,21 @@ on_connection s id f = by_connection s (fin.get s.connections id) f
 
 -- a new connection; where as many are open as may be, it gets the reply that says so, and has ended
 abbrev pub opening : Connections → Connection
-opening all = if nat_le max_open (open_count all) then with_written opened (refusal_reply (as_denied too_many_connections)) ended else opened
+opening all = if nat_le max_open (open_count all) then with_written new_connection (refusal_reply (as_denied too_many_connections)) ended else new_connection
 
 -- ---- bytes that come
 
 -- with its reply a connection has ended; a watch goes on from here
-abbrev pub answer_standing : ℕ → Option WatchFrom → Standing
-answer_standing last_tick None = ended
-answer_standing last_tick (Some from) = watching (begun_at last_tick from)
+abbrev pub answer_phase : ℕ → Option WatchFrom → Phase
+answer_phase last_tick None = ended
+answer_phase last_tick (Some from) = watching (begun_at last_tick from)
 
 abbrev pub answered : ℕ → Connection → Answer → Connection
-answered last_tick c a = with_written c (answer_bytes a a.watch) (answer_standing last_tick a.watch)
+answered last_tick c a = with_written c (answer_bytes a a.watch) (answer_phase last_tick a.watch)
 
 -- by what all the bytes of a connection ask it waits for more, or gets its reply and has ended, or watches
 abbrev pub connection_after : List ServedShape → History → ℕ → Connection → List ℕ → CallDecision → Connection
-connection_after types m last_tick c bytes undecided = with_standing c (waiting bytes)
+connection_after types m last_tick c bytes undecided = with_phase c (waiting bytes)
 connection_after types m last_tick c bytes (refused d) = with_written c (refusal_reply d) ended
 connection_after types m last_tick c bytes (accepted call) = answered last_tick c (planned types m call).answer
 
@@ -117,19 +117,19 @@ machine_after types m (refused d) = m
 machine_after types m (accepted call) = after m (planned types m call).change
 
 abbrev pub received : State → ℕ → Connection → List ℕ → CallDecision → State
-received s id c bytes asked =
-    with_connection (with_machine s (machine_after s.types s.machine asked)) id (connection_after s.types s.machine s.last_tick c bytes asked)
+received s id c bytes decision =
+    with_connection (with_machine s (machine_after s.types s.machine decision)) id (connection_after s.types s.machine s.last_tick c bytes decision)
 
 -- only a connection that waits receives bytes
-abbrev pub received_by : State → ℕ → Connection → Standing → List ℕ → CallDecision → State
-received_by s id c (waiting front) bytes asked = received s id c (front ++ bytes) asked
-received_by s id c _ bytes asked = s
+abbrev pub received_by : State → ℕ → Connection → Phase → List ℕ → CallDecision → State
+received_by s id c (waiting prefix) bytes decision = received s id c (prefix ++ bytes) decision
+received_by s id c _ bytes decision = s
 
 -- ---- watches
 
-abbrev pub standing_after : Option Watch → Standing
-standing_after None = ended
-standing_after (Some w) = watching w
+abbrev pub phase_after : Option Watch → Phase
+phase_after None = ended
+phase_after (Some w) = watching w
 
 abbrev pub has_no_next : Option Watch → Bool
 has_no_next None = true
@@ -140,12 +140,12 @@ abbrev pub turn_bytes : Turn → List ℕ
 turn_bytes t = chunks t.lines (has_no_next t.next)
 
 -- a watch at its turn; any other connection stays as it is
-abbrev pub after_turn : (Watch → Turn) → Connection → Standing → Connection
-after_turn turn c (watching w) = with_written c (turn_bytes (turn w)) (standing_after (turn w).next)
+abbrev pub after_turn : (Watch → Turn) → Connection → Phase → Connection
+after_turn turn c (watching w) = with_written c (turn_bytes (turn w)) (phase_after (turn w).next)
 after_turn turn c _ = c
 
 abbrev pub with_turn : (Watch → Turn) → Connection → Connection
-with_turn turn c = after_turn turn c c.standing
+with_turn turn c = after_turn turn c c.phase
 
 -- ---- other types
 
@@ -159,16 +159,16 @@ with_types s (Err why) = s
 abbrev pub with_tick : State → ℕ → Connections → State
 with_tick s ms all = record s { last_tick = ms; connections = all }
 
--- the state after an event that is not refused: asked is what the bytes of its connection ask
-abbrev pub carried_out : State → Event → CallDecision → State
-carried_out s (opens id) asked = with_connection s id (opening s.connections)
-carried_out s (comes id bytes) asked = on_connection s id (λ c. received_by s id c c.standing bytes asked)
-carried_out s (goes id) asked = on_connection s id (λ c. with_connection s id (with_standing c (gone (has_ended c.standing))))
-carried_out s (pumps id max) asked = on_connection s id (λ c. with_connection s id (with_turn (pumped s.machine max) c))
-carried_out s (ticks ms) asked = with_tick s ms (each (λ id c. with_turn (ticked s.types ms) c) s.connections)
+-- the state after an event that is not refused: the decision is what the bytes of its connection ask
+abbrev pub applied_event : State → Event → CallDecision → State
+applied_event s (opens id) decision = with_connection s id (opening s.connections)
+applied_event s (comes id bytes) decision = on_connection s id (λ c. received_by s id c c.phase bytes decision)
+applied_event s (goes id) decision = on_connection s id (λ c. with_connection s id (with_phase c (gone (has_ended c.phase))))
+applied_event s (pumps id max) decision = on_connection s id (λ c. with_connection s id (with_turn (pumped s.machine max) c))
+applied_event s (ticks ms) decision = with_tick s ms (each (λ id c. with_turn (ticked s.types ms) c) s.connections)
 -- no change is lost: the compacted number alone is another
-carried_out s (compacts c) asked = with_machine s (compacted_to c s.machine)
-carried_out s (retypes file) asked = with_types s (retyping s.types s.machine file)
+applied_event s (compacts c) decision = with_machine s (compacted_to c s.machine)
+applied_event s (retypes file) decision = with_types s (retyping s.types s.machine file)
 
 abbrev pub unless_refused : Option Refusal → State → State → State
 unless_refused None s t = t
@@ -176,43 +176,43 @@ unless_refused (Some why) s t = s
 
 -- a refused event changes nothing
 abbrev pub stepped : State → Event → CallDecision → State
-stepped s e asked = unless_refused (refusal s e) s (carried_out s e asked)
+stepped s e decision = unless_refused (refusal s e) s (applied_event s e decision)
 
 -- ---- out of memory
 
 -- an open connection dies: no further byte is written on it, and what was written stays until it is taken
-abbrev pub dead : Connection → Connection
-dead c = if is_open c.standing then with_standing c ended else c
+abbrev pub killed : Connection → Connection
+killed c = if is_open c.phase then with_phase c ended else c
 
 -- it watches, and its turn at this tick writes something
-abbrev pub writes_at : ℕ → Standing → Bool
+abbrev pub writes_at : ℕ → Phase → Bool
 writes_at ms (watching w) = is_due ms w
 writes_at ms _ = false
 
 -- a watch that found no room for what it writes is dead; every other connection has its turn: one to which nothing is due needs no room
-abbrev pub dead_or_ticked : List ServedShape → ℕ → Bool → Connection → Connection
-dead_or_ticked types ms found_none c = if found_none && writes_at ms c.standing then dead c else with_turn (ticked types ms) c
+abbrev pub killed_or_ticked : List ServedShape → ℕ → Bool → Connection → Connection
+killed_or_ticked types ms some_ran_out c = if some_ran_out && writes_at ms c.phase then killed c else with_turn (ticked types ms) c
 
 -- the state after an event that takes memory (`takes_memory`) and found none; at a tick it is these connections that found none
-abbrev pub starved : State → Event → (ℕ → Bool) → State
-starved s (opens id) found_none = s
-starved s (comes id bytes) found_none = on_connection s id (λ c. with_connection s id (dead c))
-starved s (goes id) found_none = s
-starved s (pumps id max) found_none = on_connection s id (λ c. with_connection s id (dead c))
-starved s (ticks ms) found_none = with_tick s ms (each (λ id c. dead_or_ticked s.types ms (found_none id) c) s.connections)
-starved s (compacts c) found_none = s
-starved s (retypes file) found_none = s
+abbrev pub out_of_memory : State → Event → (ℕ → Bool) → State
+out_of_memory s (opens id) some_ran_out = s
+out_of_memory s (comes id bytes) some_ran_out = on_connection s id (λ c. with_connection s id (killed c))
+out_of_memory s (goes id) some_ran_out = s
+out_of_memory s (pumps id max) some_ran_out = on_connection s id (λ c. with_connection s id (killed c))
+out_of_memory s (ticks ms) some_ran_out = with_tick s ms (each (λ id c. killed_or_ticked s.types ms (some_ran_out id) c) s.connections)
+out_of_memory s (compacts c) some_ran_out = s
+out_of_memory s (retypes file) some_ran_out = s
 
 -- which events take memory: bytes only where the connection waits for them, a pump only where it watches, a tick only where a watch found none
 -- whose turn writes something
 abbrev pub takes_memory : State → Event → (ℕ → Bool) → Bool
-takes_memory s (opens id) found_none = true
-takes_memory s (comes id bytes) found_none = waiting_on s.connections id
-takes_memory s (goes id) found_none = false
-takes_memory s (pumps id max) found_none = watching_on s.connections id
-takes_memory s (ticks ms) found_none = list_any (λ e. found_none e.0 && writes_at ms e.1.standing) (fin.entries s.connections)
-takes_memory s (compacts c) found_none = true
-takes_memory s (retypes file) found_none = true
+takes_memory s (opens id) some_ran_out = true
+takes_memory s (comes id bytes) some_ran_out = waiting_on s.connections id
+takes_memory s (goes id) some_ran_out = false
+takes_memory s (pumps id max) some_ran_out = watching_on s.connections id
+takes_memory s (ticks ms) some_ran_out = list_any (λ e. some_ran_out e.0 && writes_at ms e.1.phase) (fin.entries s.connections)
+takes_memory s (compacts c) some_ran_out = true
+takes_memory s (retypes file) some_ran_out = true
 
 -- why an event is refused that takes no memory before: types are read first, whatever then becomes of them
 abbrev pub early_refusal : State → Event → Option Refusal
@@ -220,8 +220,8 @@ early_refusal s (retypes file) = None
 early_refusal s e = refusal s e
 
 -- an event that is not refused before finds no memory, and leads to this state
-abbrev pub Starves : State → Event → (ℕ → Bool) → State → Type 0
-Starves s e found_none t = (early_refusal s e ≡ None) × (takes_memory s e found_none ≡ true) × (t ≡ starved s e found_none)
+abbrev pub RunsOutOfMemory : State → Event → (ℕ → Bool) → State → Type 0
+RunsOutOfMemory s e some_ran_out t = (early_refusal s e ≡ None) × (takes_memory s e some_ran_out ≡ true) × (t ≡ out_of_memory s e some_ran_out)
 
 -- ---- bytes that are taken
 

@@ -3,20 +3,20 @@
 use Rattle.std.specs.Prelude.{ℕ, ◌*◌, ◌-◌, Bool, ◌&&◌, ◌||◌, nat_lt, nat_le, if◌then◌else◌, List, [], ◌∷◌, Option, Some, None}
 use Rattle.api_types.specs.TypesFile.{ServedShape}
 use Rattle.history.specs.History.{History}
-use Rattle.watchline.specs.Opening.{WatchFrom, begun}
-use Rattle.watchline.specs.Watches.{Cursor, Marking, from_history, is_bookmark_due}
+use Rattle.watchline.specs.Opening.{WatchFrom, first_cursor}
+use Rattle.watchline.specs.Watches.{Cursor, BookmarkTurn, from_history, is_bookmark_due}
 use Rattle.watchline.specs.Watches as cursors
 use Rattle.verbs.specs.Watching.{bookmarked_in}
 
 -- where it stands; the last tick before its opening, in milliseconds; the seconds after which it ends, 0 for never
 pub record Watch : Type 0 where
   pub cursor : Cursor
-  pub opened : ℕ
+  pub opened_at : ℕ
   pub timeout : ℕ
 
 -- one that opens after this tick
 abbrev pub begun_at : ℕ → WatchFrom → Watch
-begun_at last_tick from = record { cursor = begun from; opened = last_tick; timeout = from.timeout }
+begun_at last_tick from = record { cursor = first_cursor from; opened_at = last_tick; timeout = from.timeout }
 
 abbrev pub with_cursor : Watch → Cursor → Watch
 with_cursor w cursor = record w { cursor = cursor }
@@ -40,20 +40,20 @@ pumped m max w = turned w (cursors.pumped (from_history m) max w.cursor)
 -- ---- its turn at a tick, so many milliseconds after the start: a bookmark where one is due, and then the end where its time is over
 
 -- the milliseconds since the last tick before its opening are those of its seconds, or more
-abbrev pub is_over : ℕ → Watch → Bool
-is_over ms w = nat_lt 0 w.timeout && nat_le (w.timeout * 1000) (ms - w.opened)
+abbrev pub has_timed_out : ℕ → Watch → Bool
+has_timed_out ms w = nat_lt 0 w.timeout && nat_le (w.timeout * 1000) (ms - w.opened_at)
 
 -- it writes something
 abbrev pub is_due : ℕ → Watch → Bool
-is_due ms w = is_bookmark_due w.cursor || is_over ms w
+is_due ms w = is_bookmark_due w.cursor || has_timed_out ms w
 
 abbrev pub line_list : Option (List ℕ) → List (List ℕ)
 line_list None = []
 line_list (Some line) = line ∷ []
 
-abbrev pub marked : ℕ → Watch → Marking → Turn
-marked ms w m = record { lines = line_list m.line; next = unless_ended (is_over ms w) (with_cursor w m.next) }
+abbrev pub bookmark_turned : ℕ → Watch → BookmarkTurn → Turn
+bookmark_turned ms w m = record { lines = line_list m.line; next = unless_ended (has_timed_out ms w) (with_cursor w m.next) }
 
 -- the types name what a bookmark is of
 abbrev pub ticked : List ServedShape → ℕ → Watch → Turn
-ticked types ms w = marked ms w (bookmarked_in types w.cursor)
+ticked types ms w = bookmark_turned ms w (bookmarked_in types w.cursor)

@@ -3,9 +3,9 @@
 ghost use Rattle.std.specs.Prelude.{List, IfOk, OnErr, option_map};
 ghost use Rattle.api_types.specs.TypesFile.{ServedShape};
 ghost use Rattle.history.specs.History.{History};
-ghost use Rattle.api_request.specs.Seen.{call_of};
-ghost use Rattle.verbs.specs.Seen.{Stands};
-ghost use Rattle.httpedge.specs.Served.{Serves};
+ghost use Rattle.api_request.specs.Views.{call_of};
+ghost use Rattle.verbs.specs.Views.{ApiRepresents};
+ghost use Rattle.httpedge.specs.CallReplyViews.{Serves};
 ghost use Rattle.watchline.specs.Views.{watch_from};
 
 use api_request::Call;
@@ -16,7 +16,7 @@ use watchline::WatchFrom;
 
 /// What is written of an answer, and the watch that it opens.
 #[derive(Debug, Drop)]
-pub(crate) struct Served {
+pub(crate) struct CallReply {
     /// The reply, or what a watch begins with.
     pub bytes: Vec<u8>,
     /// The watch, whose lines are written later.
@@ -24,15 +24,15 @@ pub(crate) struct Served {
 }
 
 /// Makes a call: what is written of its answer is there before its change is made.
-pub(crate) fn serve(alloc: Global, api: &mut Api, call: &Call) -> Result<Served, Fault>
-    ensures ok { (types : List ServedShape) (m : History) → Stands api.old types m
+pub(crate) fn serve(alloc: Global, api: &mut Api, call: &Call) -> Result<CallReply, Fault>
+    ensures ok { (types : List ServedShape) (m : History) → ApiRepresents api.old types m
         → IfOk result (λ v. Serves types m (call_of call.now) v.bytes.items (option_map watch_from v.watch) api.new) }
-    ensures err { (types : List ServedShape) (m : History) → Stands api.old types m → OnErr result (Stands api.new types m) }
+    ensures err { (types : List ServedShape) (m : History) → ApiRepresents api.old types m → OnErr result (ApiRepresents api.new types m) }
 {
     let plan = api.plan(call)?;
     let bytes = answer_bytes(alloc, &plan.answer)?;
     api.commit(&plan)?;
-    Ok(Served {
+    Ok(CallReply {
         bytes,
         watch: plan.answer.watch,
     })

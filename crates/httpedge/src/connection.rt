@@ -5,26 +5,26 @@ ghost use Rattle.std.specs.Prelude.{◌≡◌, ◌++◌, ℕ, List, None, true, 
 ghost use Rattle.api_types.specs.TypesFile.{ServedShape};
 ghost use Rattle.history.specs.History.{History};
 ghost use Rattle.api_request.specs.Calls.{Answer};
-ghost use Rattle.verbs.specs.Seen.{Stands};
-ghost use Rattle.httpedge.specs.Changes.{MakesHeld, takes_memory_on};
+ghost use Rattle.verbs.specs.Views.{ApiRepresents};
+ghost use Rattle.httpedge.specs.ChangeViews.{MakesRepresented, takes_memory_on};
 ghost use Rattle.httpedge.specs.Connections as model;
-ghost use Rattle.httpedge.specs.Connections.{Connections, ended, gone, open_count, opened, with_standing, with_taken};
-ghost use Rattle.httpedge.specs.Held.{Becomes, Holds, Received, has_ended_in, is_open_in, is_waiting_in, out_in, over_in};
-ghost use Rattle.requests.specs.Fronts.{front_bytes};
+ghost use Rattle.httpedge.specs.Connections.{Connections, ended, gone, open_count, new_connection, with_phase, with_taken};
+ghost use Rattle.httpedge.specs.ConnectionViews.{Becomes, ConnectionRepresents, Received, has_ended_in, is_open_in, is_waiting_in, out_in, had_ended_if_over_in};
+ghost use Rattle.requests.specs.ReadBufferViews.{buffered};
 ghost use Rattle.requests.specs.Pendings.{Awaits, Finds};
-ghost use Rattle.httpedge.specs.Shares.{SharedStands};
+ghost use Rattle.httpedge.specs.SharedViews.{SharedRepresents};
 ghost use Rattle.httpedge.specs.Steps.{answered, opening};
 ghost use Rattle.httpedge.specs.declared.event.Change.TheVariants as changes;
 ghost use Rattle.requests.specs.Replies.{answer_bytes};
 ghost use Rattle.watchline.specs.Views.{watch_from};
 
-use crate::answering::{Served, serve};
+use crate::answering::{CallReply, serve};
 use crate::event::Change;
 use crate::out::Out;
 use crate::shared::Shared;
 use crate::turns::pump_on;
 use crate::watching::Watch;
-use requests::{Front, Pending, Progress, Refusal, ask, ask_on, refusal_reply};
+use requests::{Pending, Progress, ReadBuffer, Refusal, ask, ask_on, refusal_reply};
 use std::alloc::{AllocError, Global};
 use std::mem;
 use verbs::{Api, Fault};
@@ -35,7 +35,7 @@ const MAX_OPEN: usize = 1_024;
 #[derive(Debug, Drop)]
 pub(crate) enum Connection {
     /// The head of its request hasn't come whole.
-    Head(Front),
+    Head(ReadBuffer),
     /// The body of its request hasn't come whole.
     Body(Pending),
     /// It watches.
@@ -43,15 +43,15 @@ pub(crate) enum Connection {
     /// It has ended.
     Ended(Out),
     /// It is over: its peer has gone, or it had ended before that and all was taken. So it had ended, or not.
-    Over(bool),
+    Closed(bool),
 }
 
 /// A new connection where `count` are open; past the limit it is refused.
 pub(crate) fn opening(alloc: Global, count: usize) -> Result<Connection, AllocError>
-    ensures { (types : List ServedShape) (all : Connections) → count ≡ open_count all → IfOk result (λ c. Holds types c (opening all)) }
+    ensures { (types : List ServedShape) (all : Connections) → count ≡ open_count all → IfOk result (λ c. ConnectionRepresents types c (opening all)) }
 {
     if count < MAX_OPEN {
-        return Ok(Connection::Head(Front::new(alloc)));
+        return Ok(Connection::Head(ReadBuffer::new(alloc)));
     }
     let reply = refusal_reply(alloc, Refusal::TooManyConnections.denied())?;
     Ok(Connection::Ended(Out::of(reply)))
@@ -62,7 +62,7 @@ pub(crate) fn is_open(connection: &Connection) -> bool
 {
     match connection {
         Connection::Head(_) | Connection::Body(_) | Connection::Watch(_, _) => true,
-        Connection::Ended(_) | Connection::Over(_) => false,
+        Connection::Ended(_) | Connection::Closed(_) => false,
     }
 }
 
@@ -71,7 +71,7 @@ pub(crate) fn is_waiting(connection: &Connection) -> bool
 {
     match connection {
         Connection::Head(_) | Connection::Body(_) => true,
-        Connection::Watch(_, _) | Connection::Ended(_) | Connection::Over(_) => false,
+        Connection::Watch(_, _) | Connection::Ended(_) | Connection::Closed(_) => false,
     }
 }
 
@@ -81,13 +81,13 @@ pub(crate) fn has_ended(connection: &Connection) -> bool
     match connection {
         Connection::Head(_) | Connection::Body(_) | Connection::Watch(_, _) => false,
         Connection::Ended(_) => true,
-        Connection::Over(had_ended) => *had_ended,
+        Connection::Closed(had_ended) => *had_ended,
     }
 }
 
 /// Whether it had ended, where it is over: its peer has gone, or it has ended and all is taken.
-pub(crate) fn over(connection: &Connection) -> Option<bool>
-    ensures { result ≡ over_in connection.now }
+pub(crate) fn had_ended_if_over(connection: &Connection) -> Option<bool>
+    ensures { result ≡ had_ended_if_over_in connection.now }
 {
     match connection {
         Connection::Head(_) | Connection::Body(_) | Connection::Watch(_, _) => None,
@@ -98,7 +98,7 @@ pub(crate) fn over(connection: &Connection) -> Option<bool>
                 None
             }
         }
-        Connection::Over(had_ended) => Some(*had_ended),
+        Connection::Closed(had_ended) => Some(*had_ended),
     }
 }
 
@@ -109,35 +109,35 @@ pub(crate) fn out_of(connection: &Connection) -> &[u8]
     match connection {
         Connection::Watch(_, out) => out.left(),
         Connection::Ended(out) => out.left(),
-        Connection::Head(_) | Connection::Body(_) | Connection::Over(_) => &[],
+        Connection::Head(_) | Connection::Body(_) | Connection::Closed(_) => &[],
     }
 }
 
 /// Takes the first n bytes of what is out on a connection, at most all.
 pub(crate) fn take_from(alloc: Global, connection: &mut Connection, n: usize)
-    ensures { (types : List ServedShape) (c : model.Connection) → Holds types connection.old c → Holds types connection.new (with_taken c n) }
+    ensures { (types : List ServedShape) (c : model.Connection) → ConnectionRepresents types connection.old c → ConnectionRepresents types connection.new (with_taken c n) }
 {
     match connection {
         Connection::Watch(_, out) => out.take(alloc, n),
         Connection::Ended(out) => out.take(alloc, n),
-        Connection::Head(_) | Connection::Body(_) | Connection::Over(_) => {}
+        Connection::Head(_) | Connection::Body(_) | Connection::Closed(_) => {}
     }
 }
 
 /// Its peer goes.
 pub(crate) fn go_from(connection: &mut Connection)
-    ensures { (types : List ServedShape) (c : model.Connection) → Holds types connection.new (with_standing c (gone (has_ended_in connection.old))) }
+    ensures { (types : List ServedShape) (c : model.Connection) → ConnectionRepresents types connection.new (with_phase c (gone (has_ended_in connection.old))) }
 {
     let had_ended = has_ended(connection);
-    *connection = Connection::Over(had_ended);
+    *connection = Connection::Closed(had_ended);
 }
 
 /// What becomes of a connection with the answer of its call, after this tick.
-fn answered(served: Served, last_tick: u64) -> Connection
+fn answered(served: CallReply, last_tick: u64) -> Connection
     ensures { (types : List ServedShape) (a : Answer) → served.bytes.items ≡ answer_bytes a a.watch → option_map watch_from served.watch ≡ a.watch
-        → Holds types result (answered last_tick opened a) }
+        → ConnectionRepresents types result (answered last_tick new_connection a) }
 {
-    let Served { bytes, watch } = served;
+    let CallReply { bytes, watch } = served;
     let out = Out::of(bytes);
     match watch {
         None => Connection::Ended(out),
@@ -149,13 +149,13 @@ fn answered(served: Served, last_tick: u64) -> Connection
 fn decided(
     alloc: Global,
     api: &mut Api,
-    asked: Progress,
+    decision: Progress,
     last_tick: u64,
 ) -> Result<Connection, Fault>
-    ensures ok { (types : List ServedShape) (m : History) (bytes : List ℕ) → Stands api.old types m → Finds types bytes asked → IfOk result (λ c. Becomes types m last_tick bytes c api.new) }
-    ensures err { (types : List ServedShape) (m : History) → Stands api.old types m → OnErr result (Stands api.new types m) }
+    ensures ok { (types : List ServedShape) (m : History) (bytes : List ℕ) → ApiRepresents api.old types m → Finds types bytes decision → IfOk result (λ c. Becomes types m last_tick bytes c api.new) }
+    ensures err { (types : List ServedShape) (m : History) → ApiRepresents api.old types m → OnErr result (ApiRepresents api.new types m) }
 {
-    match asked {
+    match decision {
         Progress::Pending(pending) => Ok(Connection::Body(pending)),
         Progress::Refused(denied) => {
             let reply = refusal_reply(alloc, denied)?;
@@ -171,18 +171,18 @@ fn decided(
 fn receive_head(
     alloc: Global,
     api: &mut Api,
-    front: Front,
+    prefix: ReadBuffer,
     bytes: &[u8],
     last_tick: u64,
 ) -> Result<Connection, Fault>
-    ensures ok { (types : List ServedShape) (m : History) → Stands api.old types m → IfOk result (λ c. Becomes types m last_tick (front_bytes front ++ bytes.now) c api.new) }
-    ensures err { (types : List ServedShape) (m : History) → Stands api.old types m → OnErr result (Stands api.new types m) }
+    ensures ok { (types : List ServedShape) (m : History) → ApiRepresents api.old types m → IfOk result (λ c. Becomes types m last_tick (buffered prefix ++ bytes.now) c api.new) }
+    ensures err { (types : List ServedShape) (m : History) → ApiRepresents api.old types m → OnErr result (ApiRepresents api.new types m) }
 {
-    let mut front = front.with(bytes)?;
-    let end = front.find_end();
-    match ask(alloc, api.routes(), api.types(), front.bytes(), end)? {
-        None => Ok(Connection::Head(front)),
-        Some(asked) => decided(alloc, api, asked, last_tick),
+    let mut prefix = prefix.with(bytes)?;
+    let end = prefix.find_end();
+    match ask(alloc, api.routes(), api.types(), prefix.bytes(), end)? {
+        None => Ok(Connection::Head(prefix)),
+        Some(decision) => decided(alloc, api, decision, last_tick),
     }
 }
 
@@ -193,11 +193,11 @@ fn receive_body(
     bytes: &[u8],
     last_tick: u64,
 ) -> Result<Connection, Fault>
-    ensures ok { (types : List ServedShape) (m : History) (front : List ℕ) → Stands api.old types m → Awaits types front pending → IfOk result (λ c. Becomes types m last_tick (front ++ bytes.now) c api.new) }
-    ensures err { (types : List ServedShape) (m : History) → Stands api.old types m → OnErr result (Stands api.new types m) }
+    ensures ok { (types : List ServedShape) (m : History) (prefix : List ℕ) → ApiRepresents api.old types m → Awaits types prefix pending → IfOk result (λ c. Becomes types m last_tick (prefix ++ bytes.now) c api.new) }
+    ensures err { (types : List ServedShape) (m : History) → ApiRepresents api.old types m → OnErr result (ApiRepresents api.new types m) }
 {
-    let asked = ask_on(alloc, pending, bytes)?;
-    decided(alloc, api, asked, last_tick)
+    let decision = ask_on(alloc, pending, bytes)?;
+    decided(alloc, api, decision, last_tick)
 }
 
 fn receive(
@@ -207,21 +207,21 @@ fn receive(
     bytes: &[u8],
     last_tick: u64,
 ) -> Result<Connection, Fault>
-    ensures ok { (types : List ServedShape) (m : History) (c : model.Connection) → Stands api.old types m → Holds types connection c → IfOk result (λ d. Received types m last_tick c bytes.now d api.new) }
-    ensures err { (types : List ServedShape) (m : History) → Stands api.old types m → OnErr result (Stands api.new types m) }
+    ensures ok { (types : List ServedShape) (m : History) (c : model.Connection) → ApiRepresents api.old types m → ConnectionRepresents types connection c → IfOk result (λ d. Received types m last_tick c bytes.now d api.new) }
+    ensures err { (types : List ServedShape) (m : History) → ApiRepresents api.old types m → OnErr result (ApiRepresents api.new types m) }
     ensures waited { OnErr result (is_waiting_in connection ≡ true) }
 {
     match connection {
-        Connection::Head(front) => receive_head(alloc, api, front, bytes, last_tick),
+        Connection::Head(prefix) => receive_head(alloc, api, prefix, bytes, last_tick),
         Connection::Body(pending) => receive_body(alloc, api, pending, bytes, last_tick),
         Connection::Watch(watch, out) => Ok(Connection::Watch(watch, out)),
         Connection::Ended(out) => Ok(Connection::Ended(out)),
-        Connection::Over(had_ended) => Ok(Connection::Over(had_ended)),
+        Connection::Closed(had_ended) => Ok(Connection::Closed(had_ended)),
     }
 }
 
 /// Bytes come on a connection; out of memory, it is dead. One that waits for no bytes needs no memory. What they ask may
-/// change what watches tell, so that no turn is the last one.
+/// change what watches send, so that no turn is the last one.
 pub(crate) fn receive_on(
     alloc: Global,
     shared: &mut Shared,
@@ -229,15 +229,15 @@ pub(crate) fn receive_on(
     bytes: &[u8],
     last_tick: u64,
 ) -> Result<(), Fault>
-    ensures ok { (types : List ServedShape) (m : History) (c : model.Connection) → SharedStands shared.old types m → Holds types connection.old c → OnOk result (Received types m last_tick c bytes.now connection.new shared.new.api) }
+    ensures ok { (types : List ServedShape) (m : History) (c : model.Connection) → SharedRepresents shared.old types m → ConnectionRepresents types connection.old c → OnOk result (Received types m last_tick c bytes.now connection.new shared.new.api) }
     ensures forgotten { shared.new.last ≡ None }
-    ensures err { (types : List ServedShape) (m : History) → SharedStands shared.old types m → OnErr result (SharedStands shared.new types m) }
+    ensures err { (types : List ServedShape) (m : History) → SharedRepresents shared.old types m → OnErr result (SharedRepresents shared.new types m) }
     ensures waited { OnErr result (is_waiting_in connection.old ≡ true) }
-    ensures dead { (types : List ServedShape) (c : model.Connection) → Holds types connection.old c → OnErr result (Holds types connection.new (with_standing c ended)) }
+    ensures killed { (types : List ServedShape) (c : model.Connection) → ConnectionRepresents types connection.old c → OnErr result (ConnectionRepresents types connection.new (with_phase c ended)) }
 {
     shared.last = None;
-    let dead = Connection::Ended(Out::empty(alloc));
-    let was = mem::replace(connection, dead);
+    let killed = Connection::Ended(Out::empty(alloc));
+    let was = mem::replace(connection, killed);
     *connection = receive(alloc, &mut shared.api, was, bytes, last_tick)?;
     Ok(())
 }
@@ -250,10 +250,10 @@ pub(crate) fn change(
     what: Change,
     last_tick: u64,
 ) -> Result<(), Fault>
-    ensures ok { (types : List ServedShape) (m : History) (c : model.Connection) → SharedStands shared.old types m → Holds types connection.old c → OnOk result (MakesHeld types m last_tick what.entry c connection.new shared.new) }
-    ensures err { (types : List ServedShape) (m : History) → SharedStands shared.old types m → OnErr result (SharedStands shared.new types m) }
-    ensures could { (types : List ServedShape) (c : model.Connection) → Holds types connection.old c → OnErr result (takes_memory_on what.entry c.standing ≡ true) }
-    ensures dead { (types : List ServedShape) (c : model.Connection) → Holds types connection.old c → OnErr result (Holds types connection.new (with_standing c ended)) }
+    ensures ok { (types : List ServedShape) (m : History) (c : model.Connection) → SharedRepresents shared.old types m → ConnectionRepresents types connection.old c → OnOk result (MakesRepresented types m last_tick what.entry c connection.new shared.new) }
+    ensures err { (types : List ServedShape) (m : History) → SharedRepresents shared.old types m → OnErr result (SharedRepresents shared.new types m) }
+    ensures could { (types : List ServedShape) (c : model.Connection) → ConnectionRepresents types connection.old c → OnErr result (takes_memory_on what.entry c.phase ≡ true) }
+    ensures killed { (types : List ServedShape) (c : model.Connection) → ConnectionRepresents types connection.old c → OnErr result (ConnectionRepresents types connection.new (with_phase c ended)) }
     ensures gone { what.entry ≡ changes.Gone → result ≡ Ok tt }
 {
     match what {

@@ -6,22 +6,22 @@ ghost use Rattle.std.specs.BTreeMap.{get};
 ghost use Rattle.std.specs.Ordering.{nat_cmp};
 ghost use Rattle.api_types.specs.TypesFile.{ServedShape};
 ghost use Rattle.history.specs.History.{History};
-ghost use Rattle.httpedge.specs.Changes.{Changes};
+ghost use Rattle.httpedge.specs.ChangeViews.{Changes};
 ghost use Rattle.httpedge.specs.Connections.{Connection as TheConnection};
 ghost use Rattle.httpedge.specs.Connections.{open_count, with_taken};
-ghost use Rattle.httpedge.specs.Held.{BecomesAt, Closes, Forgets, Holds, IsApart, IsAt, IsFresh, IsSame, Opens, Represents, found, has_ended_in, is_waiting_in, kept_in, out_in, over_in, over_of};
-ghost use Rattle.httpedge.specs.HubSeen.{done, outcome_of, refusal_in, refused};
-ghost use Rattle.httpedge.specs.Ids.{is_in};
-ghost use Rattle.httpedge.specs.Shares.{SharedStands};
+ghost use Rattle.httpedge.specs.ConnectionViews.{BecomesAt, Closes, Forgets, ConnectionRepresents, IsApart, IsAt, IsFresh, IsSame, Opens, PartsRepresent, found, has_ended_in, is_waiting_in, kept_in, out_in, had_ended_if_over_in, over_of};
+ghost use Rattle.httpedge.specs.HubViews.{done, outcome_of, refusal_in, refused};
+ghost use Rattle.httpedge.specs.IdViews.{is_in};
+ghost use Rattle.httpedge.specs.SharedViews.{SharedRepresents};
 ghost use Rattle.httpedge.specs.Steps.{State, start, unknown_id};
-ghost use Rattle.httpedge.specs.Ticks.{TicksIn};
+ghost use Rattle.httpedge.specs.TickViews.{TicksIn};
 ghost use Rattle.httpedge.specs.declared.connection.Connection as held;
 ghost use Rattle.httpedge.specs.declared.event.Change.TheVariants as changes;
 ghost use Rattle.httpedge.specs.declared.fault.HubFault.TheVariants as fault;
 ghost use Rattle.httpedge.specs.declared.shared.Shared as shares;
 
 use crate::connection::{
-    Connection, change, has_ended, is_open, is_waiting, out_of, over, take_from,
+    Connection, change, had_ended_if_over, has_ended, is_open, is_waiting, out_of, take_from,
 };
 use crate::event::Change;
 use crate::fault::HubFault;
@@ -50,7 +50,7 @@ pub(crate) struct Connections {
 impl Connections {
     /// None.
     pub(crate) fn new(alloc: Global) -> Connections
-        ensures { (types : List ServedShape) (m : History) (shared : shares.Shared) → SharedStands shared types m → Represents shared result (start types m) }
+        ensures { (types : List ServedShape) (m : History) (shared : shares.Shared) → SharedRepresents shared types m → PartsRepresent shared result (start types m) }
     {
         Connections {
             held: BTreeMap::new(alloc),
@@ -70,7 +70,7 @@ impl Connections {
 
     /// How many are open.
     pub(crate) fn open_count(&self) -> usize
-        ensures { (shared : shares.Shared) (s : State) → Represents shared self.now s → result ≡ open_count s.connections }
+        ensures { (shared : shares.Shared) (s : State) → PartsRepresent shared self.now s → result ≡ open_count s.connections }
     {
         self.open_ids.len()
     }
@@ -83,7 +83,7 @@ impl Connections {
     }
 
     /// Whether a connection that isn't held had ended, if the id is known.
-    fn over(&self, id: u64) -> Option<bool>
+    fn had_ended_if_over(&self, id: u64) -> Option<bool>
         ensures { result ≡ over_of (is_in self.now.ended.ranges id) (is_in self.now.cut.ranges id) }
     {
         if self.ended.contains(id) {
@@ -101,7 +101,7 @@ impl Connections {
     {
         match self.held.get(&id) {
             Some(_) => true,
-            None => self.over(id).is_some(),
+            None => self.had_ended_if_over(id).is_some(),
         }
     }
 
@@ -111,7 +111,7 @@ impl Connections {
     {
         match self.held.get(&id) {
             Some(connection) => has_ended(connection),
-            None => self.over(id).unwrap_or(false),
+            None => self.had_ended_if_over(id).unwrap_or(false),
         }
     }
 
@@ -163,18 +163,18 @@ impl Connections {
         what: Change,
         last_tick: u64,
     ) -> Result<(), HubFault>
-        ensures known { (types : List ServedShape) (m : History) (d : held.Connection) (c : TheConnection) → SharedStands shared.old types m → IsAt id d self.old → Holds types d c
+        ensures known { (types : List ServedShape) (m : History) (d : held.Connection) (c : TheConnection) → SharedRepresents shared.old types m → IsAt id d self.old → ConnectionRepresents types d c
             → Changes types m last_tick what.entry id c self.old self.new shared.new (outcome_of result) }
         ensures unknown { found self.old id ≡ None → (outcome_of result ≡ refused unknown_id) × (self.new ≡ self.old) × (shared.new ≡ shared.old) }
         ensures taken { is_some (found self.old id) ≡ true → refusal_in (outcome_of result) ≡ None }
         ensures gone { what.entry ≡ changes.Gone → result ≢ Err fault.Store }
     {
         match self.held.get_mut(&id) {
-            None => self.pass(id),
+            None => self.answer_unheld(id),
             Some(connection) => {
                 let changed = change(alloc, shared, connection, what, last_tick);
                 let still_open = is_open(connection);
-                let had_ended = over(connection);
+                let had_ended = had_ended_if_over(connection);
                 self.close(id, still_open);
                 self.forget(id, had_ended);
                 match changed {
@@ -186,11 +186,11 @@ impl Connections {
     }
 
     /// One that isn't held is over, or unknown.
-    fn pass(&self, id: u64) -> Result<(), HubFault>
+    fn answer_unheld(&self, id: u64) -> Result<(), HubFault>
         ensures outcome { outcome_of result ≡ cond (is_some (over_of (is_in self.now.ended.ranges id) (is_in self.now.cut.ranges id))) done (refused unknown_id) }
         ensures store { result ≢ Err fault.Store }
     {
-        if self.over(id).is_some() {
+        if self.had_ended_if_over(id).is_some() {
             Ok(())
         } else {
             Err(HubFault::UnknownId)
@@ -199,7 +199,7 @@ impl Connections {
 
     /// Takes the first n bytes of what is out on a connection, at most all; nothing for an unknown id.
     pub(crate) fn take(&mut self, alloc: Global, id: u64, n: usize)
-        ensures known { (types : List ServedShape) (d : held.Connection) (c : TheConnection) → IsAt id d self.old → Holds types d c
+        ensures known { (types : List ServedShape) (d : held.Connection) (c : TheConnection) → IsAt id d self.old → ConnectionRepresents types d c
             → BecomesAt types true (with_taken c n) id self.old self.new }
         ensures unknown { found self.old id ≡ None → self.new ≡ self.old }
     {
@@ -207,7 +207,7 @@ impl Connections {
             None => {}
             Some(connection) => {
                 take_from(alloc, connection, n);
-                let had_ended = over(connection);
+                let had_ended = had_ended_if_over(connection);
                 self.forget(id, had_ended);
             }
         }
@@ -215,11 +215,11 @@ impl Connections {
 
     /// Each open connection has its turn at a tick; whether one was out of memory.
     pub(crate) fn tick(&mut self, alloc: Global, api: &Api, ms: u64) -> bool
-        ensures { (shared : shares.Shared) (s : State) → shared.api ≡ api.now → Represents shared self.old s → TicksIn shared ms s self.new result }
+        ensures { (shared : shares.Shared) (s : State) → shared.api ≡ api.now → PartsRepresent shared self.old s → TicksIn shared ms s self.new result }
     {
-        let found_none = tick_all(alloc, api, &mut self.held, &self.open_ids, ms);
+        let some_ran_out = tick_all(alloc, api, &mut self.held, &self.open_ids, ms);
         drop_ended(&mut self.open_ids, &self.held);
-        found_none
+        some_ran_out
     }
 
     /// The id of one that isn't open is no longer among those that are.
@@ -236,10 +236,10 @@ impl Connections {
     }
 
     /// Of one that is over the id alone is kept, where there is memory for it.
-    fn forget(&mut self, id: u64, over: Option<bool>)
-        ensures { (d : held.Connection) → get nat_cmp self.old.held id ≡ Some d → over_in d ≡ over → IsApart self.old → Forgets id d self.old self.new }
+    fn forget(&mut self, id: u64, had_ended_if_over: Option<bool>)
+        ensures { (d : held.Connection) → get nat_cmp self.old.held id ≡ Some d → had_ended_if_over_in d ≡ had_ended_if_over → IsApart self.old → Forgets id d self.old self.new }
     {
-        match over {
+        match had_ended_if_over {
             None => {}
             Some(true) => match self.ended.insert(id) {
                 Ok(()) => {

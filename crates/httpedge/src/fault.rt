@@ -65,7 +65,7 @@ impl<T: Drop> From<AllocFailed<T>> for HubFault {
 
 impl From<verbs::Fault> for HubFault {
     ghost use Rattle.std.specs.Prelude.{◌≡◌};
-    ghost use Rattle.httpedge.specs.Faults.{hub_fault_of};
+    ghost use Rattle.httpedge.specs.FaultViews.{hub_fault_of};
 
     ghost from_gives = { λ f e. e ≡ hub_fault_of f };
 
@@ -79,7 +79,7 @@ impl From<verbs::Fault> for HubFault {
 
 impl From<RetypeFault> for HubFault {
     ghost use Rattle.std.specs.Prelude.{◌≡◌};
-    ghost use Rattle.httpedge.specs.Faults.{retyping_fault_of};
+    ghost use Rattle.httpedge.specs.FaultViews.{retyping_fault_of};
 
     ghost from_gives = { λ f e. e ≡ retyping_fault_of f };
 

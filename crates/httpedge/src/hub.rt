@@ -3,13 +3,13 @@
 ghost use Rattle.std.specs.Prelude.{◌≡◌, ◌≢◌, ◌++◌, ◌∷◌, [], ℕ, List, Some, None, true, false, Err, Ok, OnOk, OnErr};
 ghost use Rattle.api_types.specs.TypesFile.{ServedShape};
 ghost use Rattle.history.specs.History.{History};
-ghost use Rattle.verbs.specs.Seen.{Stands};
-ghost use Rattle.httpedge.specs.Changes.{event_on};
+ghost use Rattle.verbs.specs.Views.{ApiRepresents};
+ghost use Rattle.httpedge.specs.ChangeViews.{event_on};
 ghost use Rattle.httpedge.specs.Connections.{ended_on, next_id, out_on, waiting_on};
-ghost use Rattle.httpedge.specs.Held.{is_above, kept_in};
+ghost use Rattle.httpedge.specs.ConnectionViews.{is_above, kept_in};
 ghost use Rattle.serde_json.specs.View.{view};
-ghost use Rattle.httpedge.specs.HubSeen.{Handles, Happened, IsIn, Tells, TellsFile, asks_store, event_of, outcome_of, refusal_in};
-ghost use Rattle.httpedge.specs.Runs.{Follows, Happening, Runs, Steps, takes};
+ghost use Rattle.httpedge.specs.HubViews.{StepsOrRefuses, IsActionOf, HubRepresents, ReportsOutcome, ReportsFile, asks_store, event_of, outcome_of, refusal_in};
+ghost use Rattle.httpedge.specs.Runs.{Follows, Action, Runs, Steps, takes};
 ghost use Rattle.httpedge.specs.declared.event.Change.TheVariants as changes;
 ghost use Rattle.httpedge.specs.Steps.{State, compacts, opens, pumps, retypes, start, ticks, with_bytes_taken};
 
@@ -56,7 +56,7 @@ fn is_above(highest: Option<u64>, id: u64) -> bool
 impl Hub {
     /// A hub without connections.
     pub fn new(alloc: Global, api: Api) -> Hub
-        ensures { (types : List ServedShape) (m : History) → Stands api types m → IsIn result (start types m) }
+        ensures { (types : List ServedShape) (m : History) → ApiRepresents api types m → HubRepresents result (start types m) }
     {
         Hub {
             alloc,
@@ -68,15 +68,15 @@ impl Hub {
 
     /// Opens a connection under an id that is above all others.
     fn open_above(&mut self, id: u64) -> Result<(), AllocError>
-        ensures ok { (s : State) → IsIn self.old s → is_above self.old.connections.highest id ≡ true → OnOk result ((t : State) × Steps s (opens id) t × IsIn self.new t) }
-        ensures err { (s : State) → IsIn self.old s → is_above self.old.connections.highest id ≡ true → OnErr result (IsIn self.new s) }
+        ensures ok { (s : State) → HubRepresents self.old s → is_above self.old.connections.highest id ≡ true → OnOk result ((t : State) × Steps s (opens id) t × HubRepresents self.new t) }
+        ensures err { (s : State) → HubRepresents self.old s → is_above self.old.connections.highest id ≡ true → OnErr result (HubRepresents self.new s) }
     {
         let connection = opening(self.alloc, self.connections.open_count())?;
         self.connections.open(id, connection)
     }
 
     fn open(&mut self, id: u64) -> Result<(), HubFault>
-        ensures handles { Handles self.old (opens id) (outcome_of result) self.new }
+        ensures handles { StepsOrRefuses self.old (opens id) (outcome_of result) self.new }
         ensures store { result ≢ Err HubFault.Store }
     {
         if !is_above(self.connections.highest(), id) {
@@ -90,7 +90,7 @@ impl Hub {
 
     /// Changes the connection of an id.
     fn change(&mut self, id: u64, what: Change) -> Result<(), HubFault>
-        ensures handles { what.entry ≢ changes.Lines 0 → Handles self.old (event_on id what.entry) (outcome_of result) self.new }
+        ensures handles { what.entry ≢ changes.Lines 0 → StepsOrRefuses self.old (event_on id what.entry) (outcome_of result) self.new }
         ensures gone { what.entry ≡ changes.Gone → result ≢ Err HubFault.Store }
     {
         self.connections
@@ -98,7 +98,7 @@ impl Hub {
     }
 
     fn pump(&mut self, id: u64, max: u64) -> Result<(), HubFault>
-        ensures { Handles self.old (pumps id max) (outcome_of result) self.new }
+        ensures { StepsOrRefuses self.old (pumps id max) (outcome_of result) self.new }
     {
         if max > 0 {
             return self.change(id, Change::Lines(max as usize));
@@ -111,22 +111,22 @@ impl Hub {
     }
 
     fn tick(&mut self, ms: u64) -> Result<(), HubFault>
-        ensures handles { Handles self.old (ticks ms) (outcome_of result) self.new }
+        ensures handles { StepsOrRefuses self.old (ticks ms) (outcome_of result) self.new }
         ensures store { result ≢ Err HubFault.Store }
     {
         if ms < self.last_tick {
             return Err(HubFault::TickBack);
         }
-        let found_none = self.connections.tick(self.alloc, &self.shared.api, ms);
+        let some_ran_out = self.connections.tick(self.alloc, &self.shared.api, ms);
         self.last_tick = ms;
-        if found_none {
+        if some_ran_out {
             return Err(HubFault::Memory);
         }
         Ok(())
     }
 
     fn compact(&mut self, revision: u64) -> Result<(), HubFault>
-        ensures { Handles self.old (compacts revision) (outcome_of result) self.new }
+        ensures { StepsOrRefuses self.old (compacts revision) (outcome_of result) self.new }
     {
         match self.shared.compact(revision) {
             Ok(()) => Ok(()),
@@ -137,8 +137,8 @@ impl Hub {
     }
 
     fn retype(&mut self, file: &Value) -> Result<(), HubFault>
-        ensures handles { Handles self.old (retypes (view file.now)) (outcome_of result) self.new }
-        ensures told { TellsFile (retypes (view file.now)) result }
+        ensures handles { StepsOrRefuses self.old (retypes (view file.now)) (outcome_of result) self.new }
+        ensures reported { ReportsFile (retypes (view file.now)) result }
     {
         match self.shared.retype(file) {
             Ok(()) => Ok(()),
@@ -154,10 +154,10 @@ impl Hub {
     /// that memory may run out in place of a refusal. The store is asked where bytes come, at a pump, at a compaction and for
     /// other types: no other event fails by it.
     pub fn on(&mut self, event: &Event) -> Result<(), HubFault>
-        ensures follows { (s : State) → IsIn self.old s → (h : Happening) × (t : State) × Happened (event_of event.now) (outcome_of result) h × Follows s h t × IsIn self.new t }
-        ensures runs { (r s : State) (before : List Happening) → Runs r before s → IsIn self.old s → (h : Happening) × (t : State) × Happened (event_of event.now) (outcome_of result) h × Runs r (before ++ h ∷ []) t × IsIn self.new t }
-        ensures refused { (s : State) → IsIn self.old s → Tells s (event_of event.now) (outcome_of result) }
-        ensures told { TellsFile (event_of event.now) result }
+        ensures follows { (s : State) → HubRepresents self.old s → (h : Action) × (t : State) × IsActionOf (event_of event.now) (outcome_of result) h × Follows s h t × HubRepresents self.new t }
+        ensures runs { (r s : State) (before : List Action) → Runs r before s → HubRepresents self.old s → (h : Action) × (t : State) × IsActionOf (event_of event.now) (outcome_of result) h × Runs r (before ++ h ∷ []) t × HubRepresents self.new t }
+        ensures refused { (s : State) → HubRepresents self.old s → ReportsOutcome s (event_of event.now) (outcome_of result) }
+        ensures reported { ReportsFile (event_of event.now) result }
         ensures unchanged { refusal_in (outcome_of result) ≢ None → self.new ≡ self.old }
         ensures store { asks_store (event_of event.now) ≡ false → result ≢ Err HubFault.Store }
     {
@@ -175,36 +175,36 @@ impl Hub {
     /// Takes the first n bytes of what is out on a connection, at most all; nothing for an unknown id. Once all the bytes
     /// of a connection that has ended are taken, its id alone is kept.
     pub fn take(&mut self, id: u64, n: usize)
-        ensures takes { (s : State) → IsIn self.old s → IsIn self.new (with_bytes_taken s id n) }
-        ensures runs { (r s : State) (before : List Happening) → Runs r before s → IsIn self.old s → Runs r (before ++ takes id n ∷ []) (with_bytes_taken s id n) }
+        ensures takes { (s : State) → HubRepresents self.old s → HubRepresents self.new (with_bytes_taken s id n) }
+        ensures runs { (r s : State) (before : List Action) → Runs r before s → HubRepresents self.old s → Runs r (before ++ takes id n ∷ []) (with_bytes_taken s id n) }
     {
         self.connections.take(self.alloc, id, n);
     }
 
     /// What was written on a connection and not yet taken; nothing for an unknown id.
     pub fn out(&self, id: u64) -> &[u8]
-        ensures { (s : State) → IsIn self.now s → result.now ≡ out_on s.connections id }
+        ensures { (s : State) → HubRepresents self.now s → result.now ≡ out_on s.connections id }
     {
         self.connections.out(id)
     }
 
     /// Whether a connection has ended.
     pub fn ended(&self, id: u64) -> bool
-        ensures { (s : State) → IsIn self.now s → result ≡ ended_on s.connections id }
+        ensures { (s : State) → HubRepresents self.now s → result ≡ ended_on s.connections id }
     {
         self.connections.has_ended(id)
     }
 
     /// Whether a connection is open and what it asks isn't decided.
     pub fn wants(&self, id: u64) -> bool
-        ensures { (s : State) → IsIn self.now s → result ≡ waiting_on s.connections id }
+        ensures { (s : State) → HubRepresents self.now s → result ≡ waiting_on s.connections id }
     {
         self.connections.is_waiting(id)
     }
 
     /// The id after those of all connections that were ever opened: 1 at the start, none where no id is left.
     pub fn next_id(&self) -> Option<u64>
-        ensures { (s : State) → IsIn self.now s → result ≡ next_id s.connections }
+        ensures { (s : State) → HubRepresents self.now s → result ≡ next_id s.connections }
     {
         self.connections.highest().unwrap_or(0).checked_add(1)
     }
@@ -219,7 +219,7 @@ impl Hub {
 
     /// The current revision and the compacted number.
     pub fn marks(&self) -> Result<(u64, u64), Fault>
-        ensures { (s : State) → IsIn self.now s → result ≡ Ok (s.machine.current, s.machine.compacted) }
+        ensures { (s : State) → HubRepresents self.now s → result ≡ Ok (s.machine.current, s.machine.compacted) }
     {
         self.shared.marks()
     }

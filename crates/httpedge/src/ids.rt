@@ -3,7 +3,7 @@
 ghost use Rattle.std.specs.Prelude.{◌≡◌};
 ghost use Rattle.std.specs.BTreeMap.{IsOrdered, btree_map_len};
 ghost use Rattle.std.specs.Ordering.{nat_cmp, eq_by_cmp};
-ghost use Rattle.httpedge.specs.Ids.{AreApart, IsBefore, IsAfter, covers, first_with, is_in};
+ghost use Rattle.httpedge.specs.IdViews.{AreApart, IsBefore, IsAfter, covers, first_with, is_in};
 
 use std::alloc::{AllocError, Global};
 use std::collections::BTreeMap;

@@ -7,8 +7,8 @@ ghost use Rattle.api_types.specs.TypesFile.{ServedShape};
 ghost use Rattle.history.specs.History.{History, up_to};
 ghost use Rattle.verbs.specs.Machine.{IsMachine};
 ghost use Rattle.httpedge.specs.Connections.{AllIsOut, Connection, Connections, IsUntaken, each, ended_on, gone_on, has_gone, out_on, watching_on, written_on};
-ghost use Rattle.httpedge.specs.Runs.{Follows, Happening, HappensElsewhere, HasGrown, LeavesOut, Runs, Steps, bytes_at, peer_goes};
-ghost use Rattle.httpedge.specs.Steps.{Event, State, comes, start, ticks, with_bytes_taken, Starves};
+ghost use Rattle.httpedge.specs.Runs.{Follows, Action, HappensElsewhere, HasGrown, KeepsOutput, Runs, Steps, bytes_at, peer_goes};
+ghost use Rattle.httpedge.specs.Steps.{Event, State, comes, start, ticks, with_bytes_taken, RunsOutOfMemory};
 
 use requests::read_head;
 
@@ -19,8 +19,8 @@ pub fn pieces()
 {}
 
 /// Events in turn, and those of them that were out of memory, lead to one state.
-pub fn one_outcome()
-    ensures { (s t u : State) (hs : List Happening) → Runs s hs t → Runs s hs u → t ≡ u }
+pub fn runs_are_determined()
+    ensures { (s t u : State) (hs : List Action) → Runs s hs t → Runs s hs u → t ≡ u }
 {}
 
 /// Each event has a step, also one that brings bytes: all those of its connection, as they lie in memory.
@@ -43,24 +43,24 @@ pub fn bytes_are_taken()
 
 /// What happens on one connection leaves every other as it was.
 pub fn others_stay()
-    ensures { (s t : State) (h : Happening) (other : ℕ) → HappensElsewhere h other → Follows s h t → fin.get t.connections other ≡ fin.get s.connections other }
+    ensures { (s t : State) (h : Action) (other : ℕ) → HappensElsewhere h other → Follows s h t → fin.get t.connections other ≡ fin.get s.connections other }
 {}
 
 /// A connection that has ended stays so, whatever happens.
 pub fn ends_stay()
-    ensures { (s t : State) (h : Happening) (id : ℕ) → Follows s h t → ended_on s.connections id ≡ true → ended_on t.connections id ≡ true }
+    ensures { (s t : State) (h : Action) (id : ℕ) → Follows s h t → ended_on s.connections id ≡ true → ended_on t.connections id ≡ true }
 {}
 
 /// A connection whose peer has gone stays as it is, whatever happens, and nothing is out on it.
 pub fn gone_stays()
-    ensures stays { (s t : State) (h : Happening) (id : ℕ) (c : Connection) → Follows s h t → fin.get s.connections id ≡ Some c → has_gone c.standing ≡ true → fin.get t.connections id ≡ Some c }
+    ensures stays { (s t : State) (h : Action) (id : ℕ) (c : Connection) → Follows s h t → fin.get s.connections id ≡ Some c → has_gone c.phase ≡ true → fin.get t.connections id ≡ Some c }
     ensures silent { (all : Connections) (id : ℕ) → gone_on all id ≡ true → out_on all id ≡ [] }
 {}
 
 /// A tick changes watches alone, also where some of them are out of memory.
 pub fn ticks_are_for_watches()
     ensures with_memory { (s t : State) (ms id : ℕ) → watching_on s.connections id ≡ false → Steps s (ticks ms) t → fin.get t.connections id ≡ fin.get s.connections id }
-    ensures without_memory { (s t : State) (ms id : ℕ) (found_none : ℕ → Bool) → watching_on s.connections id ≡ false → Starves s (ticks ms) found_none t → fin.get t.connections id ≡ fin.get s.connections id }
+    ensures without_memory { (s t : State) (ms id : ℕ) (some_ran_out : ℕ → Bool) → watching_on s.connections id ≡ false → RunsOutOfMemory s (ticks ms) some_ran_out t → fin.get t.connections id ≡ fin.get s.connections id }
 {}
 
 /// While nothing is taken and no peer goes, what is out on a connection is all that was written on it; the same of one
@@ -69,27 +69,27 @@ pub fn all_is_out()
     ensures start { (types : List ServedShape) (m : History) → AllIsOut (start types m).connections }
     ensures stays { (s t : State) (e : Event) → peer_goes e ≡ false → AllIsOut s.connections → Steps s e t → AllIsOut t.connections }
     ensures written { (all : Connections) (id : ℕ) → AllIsOut all → out_on all id ≡ written_on all id }
-    ensures one_stays { (s t : State) (h : Happening) (id : ℕ) → LeavesOut h id → IsUntaken (fin.get s.connections id) → Follows s h t → IsUntaken (fin.get t.connections id) }
+    ensures one_stays { (s t : State) (h : Action) (id : ℕ) → KeepsOutput h id → IsUntaken (fin.get s.connections id) → Follows s h t → IsUntaken (fin.get t.connections id) }
     ensures one_written { (all : Connections) (id : ℕ) → IsUntaken (fin.get all id) → out_on all id ≡ written_on all id }
 {}
 
 /// What was written on a connection stays, and more may follow; while its peer hasn't gone it is what was taken of it
 /// and then what is out.
 pub fn written_stays()
-    ensures grows { (s t : State) (h : Happening) (id : ℕ) → Follows s h t → (more : List ℕ) × (written_on t.connections id ≡ written_on s.connections id ++ more) }
-    ensures parts { (all : Connections) (id : ℕ) (c : Connection) → fin.get all id ≡ Some c → has_gone c.standing ≡ false → written_on all id ≡ take c.taken c.written ++ out_on all id }
+    ensures grows { (s t : State) (h : Action) (id : ℕ) → Follows s h t → (more : List ℕ) × (written_on t.connections id ≡ written_on s.connections id ++ more) }
+    ensures parts { (all : Connections) (id : ℕ) (c : Connection) → fin.get all id ≡ Some c → has_gone c.phase ≡ false → written_on all id ≡ take c.taken c.written ++ out_on all id }
 {}
 
 /// The machine stays a machine, whatever happens to the hub: calls, compactions, other types, events that are refused or out
 /// of memory.
 pub fn machines_last()
-    ensures { (s t : State) (hs : List Happening) → IsMachine s.types s.machine → Runs s hs t → IsMachine t.types t.machine }
+    ensures { (s t : State) (hs : List Action) → IsMachine s.types s.machine → Runs s hs t → IsMachine t.types t.machine }
 {}
 
 /// Whatever happens to a hub, its types keep their names, its history only grows, each change of the next revision, and neither of its
 /// numbers goes down; so the changes up to a revision that has come stay.
 pub fn machines_grow()
-    ensures one { (s t : State) (h : Happening) → Follows s h t → HasGrown s t }
-    ensures all { (s t : State) (hs : List Happening) → Runs s hs t → HasGrown s t }
+    ensures one { (s t : State) (h : Action) → Follows s h t → HasGrown s t }
+    ensures all { (s t : State) (hs : List Action) → Runs s hs t → HasGrown s t }
     ensures stays { (s t : State) (r : ℕ) → HasGrown s t → r ≤ s.machine.current → up_to r t.machine.changes ≡ up_to r s.machine.changes }
 {}

@@ -5,7 +5,7 @@
 //! writes at a pump or a tick.
 //!
 //! Stands on `requests` for what a connection's bytes ask and for the bytes of a reply, on `api_request` for calls, on `verbs` for
-//! the machine and on `watchline` for what a watch tells.
+//! the machine and on `watchline` for what a watch sends.
 #![tactic(auto)]
 
 mod answering;
@@ -28,6 +28,6 @@ pub use fault::HubFault;
 pub use hub::Hub;
 pub use laws::{
     all_is_out, bytes_are_taken, each_changes, each_steps, ends_stay, gone_stays, machines_grow,
-    machines_last, one_outcome, others_stay, pieces, ticks_are_for_watches, written_stays,
+    machines_last, others_stay, pieces, runs_are_determined, ticks_are_for_watches, written_stays,
 };
 pub use streams::{LINGER, compact, hand};

@@ -14,7 +14,7 @@ pub(crate) struct Out {
 }
 
 /// Removes the first n bytes: what is left moves to the front.
-fn remove_front(bytes: &mut Vec<u8>, n: usize)
+fn remove_prefix(bytes: &mut Vec<u8>, n: usize)
     requires { n ≤ length bytes.old.items }
     ensures { bytes.new.items ≡ drop n bytes.old.items }
 {
@@ -25,7 +25,7 @@ fn remove_front(bytes: &mut Vec<u8>, n: usize)
 
 impl Out {
     ghost use Rattle.std.specs.Prelude.{◌≡◌, ◌++◌, [], drop, OnOk, OnErr};
-    ghost use Rattle.httpedge.specs.Held.{left};
+    ghost use Rattle.httpedge.specs.ConnectionViews.{left};
 
     /// These bytes, none of them taken.
     pub(crate) fn of(bytes: Vec<u8>) -> Out
@@ -73,6 +73,6 @@ impl Out {
         ensures { left self.new ≡ left self.old }
     {
         let taken = mem::replace(&mut self.taken, 0);
-        remove_front(&mut self.bytes, taken);
+        remove_prefix(&mut self.bytes, taken);
     }
 }

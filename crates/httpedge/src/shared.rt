@@ -1,4 +1,4 @@
-//! What all connections share: the API, and the last turn in which a watch told lines. How a turn changes a watch stands in
+//! What all connections share: the API, and the last turn in which a watch sent lines. How a turn changes a watch stands in
 //! `watching`.
 
 ghost use Rattle.std.specs.Prelude.{◌≡◌, ◌↔◌, ◌<◌, ◌++◌, List, Err, Ok, IfErr, IfOk, IfSome, IsTrue, OnErr, OnOk};
@@ -6,10 +6,10 @@ ghost use Rattle.api_types.specs.TypesFile.{ServedShape};
 ghost use Rattle.history.specs.History.{History, compacted_to};
 ghost use Rattle.serde_json.specs.View as value;
 ghost use Rattle.verbs.specs.Retyping.{retyped, retyping};
-ghost use Rattle.verbs.specs.Seen.{IsFileFault, Stands, retype_refusal, told_of_file};
+ghost use Rattle.verbs.specs.Views.{IsFileFault, ApiRepresents, retype_refusal, reported_of_file};
 ghost use Rattle.watchline.specs.Watches.{from_history, moved, pumped, with_bookmarks};
-ghost use Rattle.httpedge.specs.Held.{Pumps, left};
-ghost use Rattle.httpedge.specs.Shares.{Ends, IsLast, SharedStands};
+ghost use Rattle.httpedge.specs.ConnectionViews.{Pumps, left};
+ghost use Rattle.httpedge.specs.SharedViews.{TurnEnds, IsTurnFrom, SharedRepresents};
 
 use crate::out::Out;
 use requests::chunks;
@@ -17,24 +17,24 @@ use revstore::CompactFault;
 use serde_json::Value;
 use std::alloc::Global;
 use verbs::{Api, Fault, RetypeFault};
-use watchline::{Reach, WatchCursor};
+use watchline::{ResumePoint, WatchCursor};
 
 /// The bytes of a turn are kept up to so many: 1 MiB.
 const MOST_BYTES: usize = 1048576;
 
-/// A turn at a pump: where a watch stood and how many lines it could tell, then what it wrote, whether it had ended, and up to
-/// where it had told.
+/// A turn at a pump: where a watch stood and how many lines it could send, then what it wrote, whether it had ended, and up to
+/// where it had sent.
 #[derive(Drop)]
-pub(crate) struct LastTurn {
+pub(crate) struct CachedTurn {
     before: WatchCursor,
     max: usize,
     bytes: Vec<u8>,
     has_ended: bool,
-    reach: Reach,
+    resume_point: ResumePoint,
 }
 
-impl LastTurn {
-    /// Whether a watch that stands so and may tell so many lines has the same turn.
+impl CachedTurn {
+    /// Whether a watch that stands so and may send so many lines has the same turn.
     fn is_of(&self, cursor: &WatchCursor, max: usize) -> bool
         ensures max { IsTrue result → max ≡ self.now.max }
         ensures alike { IsTrue result → cursor.now ≡ with_bookmarks self.now.before cursor.now.bookmarks }
@@ -43,40 +43,40 @@ impl LastTurn {
     }
 }
 
-/// How a watch stood before it told these bytes, and up to where it has told; none where the turn isn't kept: it told nothing
-/// or too much, an object was left to be told, or there is no memory for a copy.
-fn ends_to_keep(
+/// How a watch stood before it sent these bytes, and up to where it has sent; none where the turn isn't kept: it sent nothing
+/// or too much, an object was left to be sent, or there is no memory for a copy.
+fn ends_to_cache(
     alloc: Global,
     bytes: &[u8],
-    before: Option<Reach>,
+    before: Option<ResumePoint>,
     cursor: &WatchCursor,
-) -> Option<(WatchCursor, Reach)>
-    ensures { IfSome result (λ p. Ends before cursor.now p.0 p.1) }
+) -> Option<(WatchCursor, ResumePoint)>
+    ensures { IfSome result (λ p. TurnEnds before cursor.now p.0 p.1) }
 {
     if bytes.is_empty() || bytes.len() > MOST_BYTES {
         return None;
     }
     let start = before?;
-    let reach = cursor.reach()?;
+    let resume_point = cursor.resume_point()?;
     let Ok(copied) = cursor.copied(alloc) else {
         return None;
     };
     let mut copy = copied?;
     copy.move_to(start);
-    Some((copy, reach))
+    Some((copy, resume_point))
 }
 
-/// The API, and the last turn of a watch while what it was told from stands. A change of a connection that may write, a
+/// The API, and the last turn of a watch while what it was sent from stands. A change of a connection that may write, a
 /// compaction and other types drop it.
 #[derive(Drop)]
 pub(crate) struct Shared {
     pub(crate) api: Api,
-    pub(crate) last: Option<LastTurn>,
+    pub(crate) last: Option<CachedTurn>,
 }
 
 impl Shared {
     pub(crate) fn new(api: Api) -> Shared
-        ensures { (types : List ServedShape) (m : History) → Stands api types m → SharedStands result types m }
+        ensures { (types : List ServedShape) (m : History) → ApiRepresents api types m → SharedRepresents result types m }
     {
         Shared { api, last: None }
     }
@@ -90,15 +90,15 @@ impl Shared {
         out: &mut Out,
         max: usize,
     ) -> Result<bool, Fault>
-        ensures ok { (types : List ServedShape) (m : History) → SharedStands self.old types m
+        ensures ok { (types : List ServedShape) (m : History) → SharedRepresents self.old types m
             → IfOk result (λ has_ended. Pumps (pumped (from_history m) max cursor.old) has_ended cursor.new (left out.old) (left out.new)) }
         ensures err { OnErr result (left out.new ≡ left out.old) }
-        ensures serves { (types : List ServedShape) (m : History) → SharedStands self.old types m → SharedStands self.new types m }
+        ensures serves { (types : List ServedShape) (m : History) → SharedRepresents self.old types m → SharedRepresents self.new types m }
     {
         if let Some(last) = &self.last {
             if last.is_of(cursor, max) {
                 out.add(&last.bytes)?;
-                cursor.move_to(last.reach);
+                cursor.move_to(last.resume_point);
                 return Ok(last.has_ended);
             }
         }
@@ -112,41 +112,41 @@ impl Shared {
         out: &mut Out,
         max: usize,
     ) -> Result<bool, Fault>
-        ensures ok { (types : List ServedShape) (m : History) → SharedStands self.old types m
+        ensures ok { (types : List ServedShape) (m : History) → SharedRepresents self.old types m
             → IfOk result (λ has_ended. Pumps (pumped (from_history m) max cursor.old) has_ended cursor.new (left out.old) (left out.new)) }
         ensures err { OnErr result (left out.new ≡ left out.old) }
-        ensures serves { (types : List ServedShape) (m : History) → SharedStands self.old types m → SharedStands self.new types m }
+        ensures serves { (types : List ServedShape) (m : History) → SharedRepresents self.old types m → SharedRepresents self.new types m }
     {
-        let before = cursor.reach();
+        let before = cursor.resume_point();
         let pumped = self.api.pump(cursor, max)?;
         let has_ended = pumped.ended;
         let bytes = chunks(alloc, &pumped.lines, has_ended)?;
         out.add(&bytes)?;
-        if let Some((before, reach)) = ends_to_keep(alloc, &bytes, before, cursor) {
-            self.keep(LastTurn {
+        if let Some((before, resume_point)) = ends_to_cache(alloc, &bytes, before, cursor) {
+            self.keep(CachedTurn {
                 before,
                 max,
                 bytes,
                 has_ended,
-                reach,
+                resume_point,
             });
         }
         Ok(has_ended)
     }
 
     /// A turn is the last one now.
-    fn keep(&mut self, turn: LastTurn)
-        ensures { (types : List ServedShape) (m : History) → SharedStands self.old types m → IsLast m turn → SharedStands self.new types m }
+    fn keep(&mut self, turn: CachedTurn)
+        ensures { (types : List ServedShape) (m : History) → SharedRepresents self.old types m → IsTurnFrom m turn → SharedRepresents self.new types m }
     {
         self.last = Some(turn);
     }
 
     /// As the API's call, after which no turn is the last one.
     pub(crate) fn compact(&mut self, revision: u64) -> Result<(), CompactFault>
-        ensures ok { (types : List ServedShape) (m : History) → SharedStands self.old types m → OnOk result (SharedStands self.new types (compacted_to revision m)) }
-        ensures expired { (types : List ServedShape) (m : History) → SharedStands self.old types m → (result ≡ Err CompactFault.Expired) ↔ (revision < m.compacted) }
-        ensures too_large { (types : List ServedShape) (m : History) → SharedStands self.old types m → (result ≡ Err CompactFault.TooLarge) ↔ (m.current < revision) }
-        ensures err { (types : List ServedShape) (m : History) → SharedStands self.old types m → OnErr result (SharedStands self.new types m) }
+        ensures ok { (types : List ServedShape) (m : History) → SharedRepresents self.old types m → OnOk result (SharedRepresents self.new types (compacted_to revision m)) }
+        ensures expired { (types : List ServedShape) (m : History) → SharedRepresents self.old types m → (result ≡ Err CompactFault.Expired) ↔ (revision < m.compacted) }
+        ensures too_large { (types : List ServedShape) (m : History) → SharedRepresents self.old types m → (result ≡ Err CompactFault.TooLarge) ↔ (m.current < revision) }
+        ensures err { (types : List ServedShape) (m : History) → SharedRepresents self.old types m → OnErr result (SharedRepresents self.new types m) }
         ensures unchanged { OnErr result (self.new ≡ self.old) }
     {
         match self.api.compact(revision) {
@@ -160,11 +160,11 @@ impl Shared {
 
     /// As the API's call, after which no turn is the last one.
     pub(crate) fn retype(&mut self, file: &Value) -> Result<(), RetypeFault>
-        ensures ok { (types : List ServedShape) (m : History) → SharedStands self.old types m
-            → OnOk result ((others : List ServedShape) × (retyping types m (value.view file.now) ≡ Ok others) × SharedStands self.new others (retyped types others m)) }
-        ensures refused { (types : List ServedShape) (m : History) → SharedStands self.old types m
+        ensures ok { (types : List ServedShape) (m : History) → SharedRepresents self.old types m
+            → OnOk result ((others : List ServedShape) × (retyping types m (value.view file.now) ≡ Ok others) × SharedRepresents self.new others (retyped types others m)) }
+        ensures refused { (types : List ServedShape) (m : History) → SharedRepresents self.old types m
             → IfErr result (λ e. IfSome (retype_refusal e) (λ why. retyping types m (value.view file.now) ≡ Err why)) }
-        ensures told { IfErr result (λ e. IfSome (told_of_file e) (IsFileFault (value.view file.now))) }
+        ensures reported { IfErr result (λ e. IfSome (reported_of_file e) (IsFileFault (value.view file.now))) }
         ensures unchanged { OnErr result (self.new ≡ self.old) }
     {
         match self.api.retype(file) {
@@ -178,7 +178,7 @@ impl Shared {
 
     /// The current revision and the compacted number.
     pub(crate) fn marks(&self) -> Result<(u64, u64), Fault>
-        ensures { (types : List ServedShape) (m : History) → SharedStands self.now types m → result ≡ Ok (m.current, m.compacted) }
+        ensures { (types : List ServedShape) (m : History) → SharedRepresents self.now types m → result ≡ Ok (m.current, m.compacted) }
     {
         self.api.marks()
     }

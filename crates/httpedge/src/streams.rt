@@ -2,8 +2,8 @@
 //! kept. What an event changes stands in `hub`; how streams are read and written, in the crate `wire`.
 
 ghost use Rattle.std.specs.Prelude.{◌≡◌, true};
-ghost use Rattle.httpedge.specs.HubSeen.{event_of};
-ghost use Rattle.httpedge.specs.Streams.{Compacts, MovesBy, Hands, IsDone};
+ghost use Rattle.httpedge.specs.HubViews.{event_of};
+ghost use Rattle.httpedge.specs.StreamViews.{Compacts, MovesBy, Hands, IsDone};
 
 use crate::event::Event;
 use crate::hub::Hub;

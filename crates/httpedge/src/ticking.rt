@@ -7,10 +7,10 @@ ghost use Rattle.std.specs.Prelude.{is_some, option_map, unwrap_or, false, ℕ, 
 ghost use Rattle.std.specs.BTreeMap.{get};
 ghost use Rattle.api_types.specs.TypesFile.{ServedShape};
 ghost use Rattle.history.specs.History.{History};
-ghost use Rattle.verbs.specs.Seen.{Stands};
+ghost use Rattle.verbs.specs.Views.{ApiRepresents};
 ghost use Rattle.httpedge.specs.Connections.{Connections};
-ghost use Rattle.httpedge.specs.Held.{Lists, found_in, is_open_in};
-ghost use Rattle.httpedge.specs.Ticks.{HoldsAll, TicksAll, TicksAt};
+ghost use Rattle.httpedge.specs.ConnectionViews.{Lists, found_in, is_open_in};
+ghost use Rattle.httpedge.specs.TickViews.{ConnectionsRepresent, TicksAll, TicksAt};
 
 use crate::connection::{Connection, is_open};
 use crate::turns::tick_on;
@@ -21,7 +21,7 @@ use verbs::Api;
 /// The connection of an id has its turn; whether it was out of memory. The others are over, or as they were.
 fn tick_at(alloc: Global, api: &Api, held: &mut BTreeMap<u64, Connection>, id: u64, ms: u64) -> bool
     ensures keys { (q : ℕ) → is_some (get nat_cmp held.new q) ≡ is_some (get nat_cmp held.old q) }
-    ensures ticks { (types : List ServedShape) (m : History) (before : Connections) (had_ended cut : ℕ → Bool) → Stands api.now types m → HoldsAll types (found_in held.old had_ended cut) before
+    ensures ticks { (types : List ServedShape) (m : History) (before : Connections) (had_ended cut : ℕ → Bool) → ApiRepresents api.now types m → ConnectionsRepresent types (found_in held.old had_ended cut) before
         → TicksAt types ms id before (found_in held.new had_ended cut) result }
 {
     match held.get_mut(&id) {
@@ -39,15 +39,15 @@ pub(crate) fn tick_all(
     ms: u64,
 ) -> bool
     ensures keys { (q : ℕ) → is_some (get nat_cmp held.new q) ≡ is_some (get nat_cmp held.old q) }
-    ensures ticks { (types : List ServedShape) (m : History) (before : Connections) (had_ended cut : ℕ → Bool) → Stands api.now types m → HoldsAll types (found_in held.old had_ended cut) before
+    ensures ticks { (types : List ServedShape) (m : History) (before : Connections) (had_ended cut : ℕ → Bool) → ApiRepresents api.now types m → ConnectionsRepresent types (found_in held.old had_ended cut) before
         → Lists ids.now before → TicksAll types ms before (found_in held.new had_ended cut) result }
 {
-    let mut found_none = false;
+    let mut some_ran_out = false;
     for id in ids {
-        let starved = tick_at(alloc, api, held, *id, ms);
-        found_none = found_none || starved;
+        let out_of_memory = tick_at(alloc, api, held, *id, ms);
+        some_ran_out = some_ran_out || out_of_memory;
     }
-    found_none
+    some_ran_out
 }
 
 /// Drops the ids of those that are no longer open.

@@ -3,12 +3,12 @@
 ghost use Rattle.std.specs.Prelude.{◌≡◌, List, true, OnOk, OnErr};
 ghost use Rattle.api_types.specs.TypesFile.{ServedShape};
 ghost use Rattle.history.specs.History.{History};
-ghost use Rattle.verbs.specs.Seen.{Stands};
+ghost use Rattle.verbs.specs.Views.{ApiRepresents};
 ghost use Rattle.httpedge.specs.Connections as model;
-ghost use Rattle.httpedge.specs.Connections.{ended, with_standing};
-ghost use Rattle.httpedge.specs.Held.{Holds, is_watching_in};
-ghost use Rattle.httpedge.specs.Shares.{SharedStands};
-ghost use Rattle.httpedge.specs.Steps.{dead_or_ticked, with_turn, writes_at};
+ghost use Rattle.httpedge.specs.Connections.{ended, with_phase};
+ghost use Rattle.httpedge.specs.ConnectionViews.{ConnectionRepresents, is_watching_in};
+ghost use Rattle.httpedge.specs.SharedViews.{SharedRepresents};
+ghost use Rattle.httpedge.specs.Steps.{killed_or_ticked, with_turn, writes_at};
 ghost use Rattle.httpedge.specs.Watches.{pumped};
 
 use crate::connection::Connection;
@@ -25,11 +25,11 @@ pub(crate) fn pump_on(
     connection: &mut Connection,
     max: usize,
 ) -> Result<(), Fault>
-    ensures ok { (types : List ServedShape) (m : History) (c : model.Connection) → SharedStands shared.old types m → Holds types connection.old c
-        → OnOk result (Holds types connection.new (with_turn (pumped m max) c)) }
-    ensures dead { (types : List ServedShape) (c : model.Connection) → Holds types connection.old c → OnErr result (Holds types connection.new (with_standing c ended)) }
+    ensures ok { (types : List ServedShape) (m : History) (c : model.Connection) → SharedRepresents shared.old types m → ConnectionRepresents types connection.old c
+        → OnOk result (ConnectionRepresents types connection.new (with_turn (pumped m max) c)) }
+    ensures killed { (types : List ServedShape) (c : model.Connection) → ConnectionRepresents types connection.old c → OnErr result (ConnectionRepresents types connection.new (with_phase c ended)) }
     ensures watched { OnErr result (is_watching_in connection.old ≡ true) }
-    ensures serves { (types : List ServedShape) (m : History) → SharedStands shared.old types m → SharedStands shared.new types m }
+    ensures serves { (types : List ServedShape) (m : History) → SharedRepresents shared.old types m → SharedRepresents shared.new types m }
 {
     match connection {
         Connection::Watch(watch, out) => match watch.pump(alloc, shared, out, max) {
@@ -46,15 +46,15 @@ pub(crate) fn pump_on(
         Connection::Head(_) => Ok(()),
         Connection::Body(_) => Ok(()),
         Connection::Ended(_) => Ok(()),
-        Connection::Over(_) => Ok(()),
+        Connection::Closed(_) => Ok(()),
     }
 }
 
 /// A connection at a tick; whether it was out of memory: then it is dead. One that doesn't watch stays as it is.
 pub(crate) fn tick_on(alloc: Global, api: &Api, connection: &mut Connection, ms: u64) -> bool
-    ensures ticks { (types : List ServedShape) (m : History) (c : model.Connection) → Stands api.now types m → Holds types connection.old c
-        → Holds types connection.new (dead_or_ticked types ms result c) }
-    ensures due { (types : List ServedShape) (c : model.Connection) → Holds types connection.old c → result ≡ true → writes_at ms c.standing ≡ true }
+    ensures ticks { (types : List ServedShape) (m : History) (c : model.Connection) → ApiRepresents api.now types m → ConnectionRepresents types connection.old c
+        → ConnectionRepresents types connection.new (killed_or_ticked types ms result c) }
+    ensures due { (types : List ServedShape) (c : model.Connection) → ConnectionRepresents types connection.old c → result ≡ true → writes_at ms c.phase ≡ true }
 {
     match connection {
         Connection::Watch(watch, out) => match watch.tick(alloc, api, out, ms) {
@@ -71,6 +71,6 @@ pub(crate) fn tick_on(alloc: Global, api: &Api, connection: &mut Connection, ms:
         Connection::Head(_) => false,
         Connection::Body(_) => false,
         Connection::Ended(_) => false,
-        Connection::Over(_) => false,
+        Connection::Closed(_) => false,
     }
 }

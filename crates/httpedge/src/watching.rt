@@ -4,12 +4,12 @@
 ghost use Rattle.std.specs.Prelude.{◌≡◌, ◌*◌, List, true, IfOk, OnErr, nat_le, option_map, string_bytes};
 ghost use Rattle.api_types.specs.TypesFile.{ServedShape};
 ghost use Rattle.history.specs.History.{History};
-ghost use Rattle.verbs.specs.Seen.{Stands};
+ghost use Rattle.verbs.specs.Views.{ApiRepresents};
 ghost use Rattle.watchline.specs.Views.{watch_from};
-ghost use Rattle.httpedge.specs.Held.{Turns, left, watch_of};
+ghost use Rattle.httpedge.specs.ConnectionViews.{Turns, left, watch_of};
 ghost use Rattle.requests.specs.ReplyBytes.{chunks};
-ghost use Rattle.httpedge.specs.Shares.{SharedStands};
-ghost use Rattle.httpedge.specs.Watches.{begun_at, is_due, is_over, line_list, pumped, ticked};
+ghost use Rattle.httpedge.specs.SharedViews.{SharedRepresents};
+ghost use Rattle.httpedge.specs.Watches.{begun_at, is_due, has_timed_out, line_list, pumped, ticked};
 
 use crate::out::Out;
 use crate::shared::Shared;
@@ -22,7 +22,7 @@ use watchline::{WatchCursor, WatchFrom};
 #[derive(Debug, Drop)]
 pub(crate) struct Watch {
     cursor: WatchCursor,
-    opened: u64,
+    opened_at: u64,
     timeout: u64,
 }
 
@@ -56,15 +56,15 @@ impl Watch {
         let timeout = from.timeout;
         Watch {
             cursor: WatchCursor::new(from),
-            opened: last_tick,
+            opened_at: last_tick,
             timeout,
         }
     }
 
-    fn is_over(&self, ms: u64) -> bool
-        ensures { result ≡ is_over ms (watch_of self.now) }
+    fn has_timed_out(&self, ms: u64) -> bool
+        ensures { result ≡ has_timed_out ms (watch_of self.now) }
     {
-        self.timeout > 0 && has_passed(self.timeout, ms.saturating_sub(self.opened))
+        self.timeout > 0 && has_passed(self.timeout, ms.saturating_sub(self.opened_at))
     }
 
     /// Its turn at a pump; whether it has ended. Out of memory, it writes nothing more.
@@ -75,10 +75,10 @@ impl Watch {
         out: &mut Out,
         max: usize,
     ) -> Result<bool, Fault>
-        ensures ok { (types : List ServedShape) (m : History) → SharedStands shared.old types m
+        ensures ok { (types : List ServedShape) (m : History) → SharedRepresents shared.old types m
             → IfOk result (λ has_ended. Turns (pumped m max (watch_of self.old)) has_ended (watch_of self.new) (left out.old) (left out.new)) }
         ensures err { OnErr result (left out.new ≡ left out.old) }
-        ensures serves { (types : List ServedShape) (m : History) → SharedStands shared.old types m → SharedStands shared.new types m }
+        ensures serves { (types : List ServedShape) (m : History) → SharedRepresents shared.old types m → SharedRepresents shared.new types m }
     {
         shared.pump(alloc, &mut self.cursor, out, max)
     }
@@ -92,12 +92,12 @@ impl Watch {
         out: &mut Out,
         ms: u64,
     ) -> Result<bool, Fault>
-        ensures ok { (types : List ServedShape) (m : History) → Stands api.now types m
+        ensures ok { (types : List ServedShape) (m : History) → ApiRepresents api.now types m
             → IfOk result (λ has_ended. Turns (ticked types ms (watch_of self.old)) has_ended (watch_of self.new) (left out.old) (left out.new)) }
         ensures err { OnErr result (left out.new ≡ left out.old) }
         ensures due { OnErr result (is_due ms (watch_of self.old) ≡ true) }
     {
-        let has_ended = self.is_over(ms);
+        let has_ended = self.has_timed_out(ms);
         let line = api.bookmark(&mut self.cursor)?;
         if line.is_none() && !has_ended {
             return Ok(false);

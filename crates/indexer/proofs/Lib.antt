@@ -2,7 +2,7 @@ pub mod Among
 pub mod ByText
 pub mod Flags
 pub mod Followed
-pub mod Held
+pub mod IndexedObjects
 pub mod Pushes
 pub mod Rows
 pub mod Same

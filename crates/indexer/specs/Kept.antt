@@ -9,17 +9,17 @@ use Rattle.indexer.specs.Objects.{Place, place_cmp, place_of, Stored, shared_of,
 use Rattle.indexer.specs.Postings.{Postings}
 
 -- objects by place, each with its keys in each index
-abbrev pub Held : Type 0
-Held = FinMap place_cmp (Stored × List (List (List ℕ)))
+abbrev pub IndexedObjects : Type 0
+IndexedObjects = FinMap place_cmp (Stored × List (List (List ℕ)))
 
 abbrev pub seen_of : Entry → Stored × List (List (List ℕ))
 seen_of e = (shared_of e.object, kept_of e.keys.items)
 
-abbrev pub held_in : BTreeMap ObjectKey Entry → Held
-held_in objects = from_entries (map (λ e. (place_of e.0, seen_of e.1)) objects.entries)
+abbrev pub indexed_objects_in : BTreeMap ObjectKey Entry → IndexedObjects
+indexed_objects_in objects = from_entries (map (λ e. (place_of e.0, seen_of e.1)) objects.entries)
 
 -- the objects without their keys in the indexes, in order of places
-abbrev pub objects_in : Held → List (Place × Stored)
+abbrev pub objects_in : IndexedObjects → List (Place × Stored)
 objects_in held = map (λ e. (e.0, e.1.0)) (entries held)
 
 -- whether an object has the key in index number i

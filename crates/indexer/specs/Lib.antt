@@ -4,7 +4,7 @@ pub mod Texts
 pub mod Objects
 pub mod Kept
 pub mod Names
-pub mod Faults
+pub mod FaultViews
 pub mod PutAll
-pub mod Calls
+pub mod CallLaws
 pub mod Indexer

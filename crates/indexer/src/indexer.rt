@@ -4,7 +4,7 @@
 ghost use Rattle.std.specs.Prelude.{◌≡◌, List, map, IfOk, OnOk, string_bytes, true, false};
 ghost use Rattle.std.specs.FinMap as fin;
 ghost use Rattle.indexer.specs.PutAll.{put_all};
-ghost use Rattle.indexer.specs.Kept.{HoldsPostings, held_in};
+ghost use Rattle.indexer.specs.Kept.{HoldsPostings, indexed_objects_in};
 ghost use Rattle.indexer.specs.Names.{are_distinct};
 ghost use Rattle.indexer.specs.declared.indexer.IndexerFault.TheVariants.{Memory};
 ghost use Rattle.indexer.specs.Objects.{shared_of};
@@ -42,7 +42,7 @@ pub enum IndexerFault {
 
 impl fmt::Display for IndexerFault {
     ghost use Rattle.std.specs.Prelude.{Some};
-    ghost use Rattle.indexer.specs.Faults.{error_text};
+    ghost use Rattle.indexer.specs.FaultViews.{error_text};
 
     ghost output = { λ e. Some (error_text e) };
 
@@ -77,7 +77,7 @@ fn gather<I: IndexBy>(
     from: Vec<Rc<Object>>,
 ) -> Result<Gathered, AllocError>
     ensures holds { IfOk result (λ r. HoldsPostings r.objects r.postings.items) }
-    ensures held { IfOk result (λ r. held_in r.objects ≡ put_all (λ o. map (λ b. I.keys b o) indexes.now) (map shared_of from.items) fin.empty) }
+    ensures held { IfOk result (λ r. indexed_objects_in r.objects ≡ put_all (λ o. map (λ b. I.keys b o) indexes.now) (map shared_of from.items) fin.empty) }
 {
     let mut objects = BTreeMap::new(alloc);
     let mut postings = Vec::new(alloc);
@@ -96,7 +96,7 @@ impl<I: IndexBy> Indexer<I> {
     ghost use Rattle.std.specs.List.Sorted.{IsStrictlySortedBy};
     ghost use Rattle.std.specs.Ordering.{nat_cmp};
     ghost use Rattle.indexer.specs.declared.object.ObjectKey.{ObjectKey};
-    ghost use Rattle.indexer.specs.Indexer.{held_of, indexes_of, names_of, is_under};
+    ghost use Rattle.indexer.specs.Indexer.{indexed_objects_of, indexes_of, names_of, is_under};
     ghost use Rattle.indexer.specs.Kept.{objects_in};
     ghost use Rattle.indexer.specs.Names.{are_distinct};
     ghost use Rattle.indexer.specs.PutAll.{put_all};
@@ -105,7 +105,7 @@ impl<I: IndexBy> Indexer<I> {
 
     /// No objects, and these indexes; refused where two have one name.
     pub fn new(alloc: Global, indexes: Vec<I>) -> Result<Indexer<I>, IndexerFault>
-        ensures made { IfOk result (λ r. held_of r ≡ fin.empty) }
+        ensures made { IfOk result (λ r. indexed_objects_of r ≡ fin.empty) }
         ensures indexes { IfOk result (λ r. indexes_of r ≡ indexes.items) }
         ensures names { IfOk result (λ r. names_of r ≡ map (λ b. I.title b) indexes.items) }
         ensures distinct { OnOk result (are_distinct (map (λ b. I.title b) indexes.items) ≡ true) }
@@ -130,9 +130,9 @@ impl<I: IndexBy> Indexer<I> {
         &mut self,
         objects: Vec<Rc<Object>>,
     ) -> Result<Vec<(ObjectKey, Rc<Object>)>, AllocError>
-        ensures ok { OnOk result (held_of self.new ≡ put_all (λ o. map (λ b. I.keys b o) (indexes_of self.old)) (map shared_of objects.items) fin.empty) }
-        ensures was { IfOk result (λ v. map (λ e. (place_of e.0, shared_of e.1)) v.items ≡ objects_in (held_of self.old)) }
-        ensures err { OnErr result (held_of self.new ≡ held_of self.old) }
+        ensures ok { OnOk result (indexed_objects_of self.new ≡ put_all (λ o. map (λ b. I.keys b o) (indexes_of self.old)) (map shared_of objects.items) fin.empty) }
+        ensures was { IfOk result (λ v. map (λ e. (place_of e.0, shared_of e.1)) v.items ≡ objects_in (indexed_objects_of self.old)) }
+        ensures err { OnErr result (indexed_objects_of self.new ≡ indexed_objects_of self.old) }
         ensures indexes { indexes_of self.new ≡ indexes_of self.old }
         ensures names { names_of self.new ≡ names_of self.old }
     {
@@ -147,9 +147,9 @@ impl<I: IndexBy> Indexer<I> {
     /// Keeps the object where it stands, in place of the one that was there, which is returned, and in every
     /// index under its keys alone. Out of memory, it changes nothing.
     pub fn put(&mut self, object: Rc<Object>) -> Result<Option<Rc<Object>>, AllocError>
-        ensures ok { OnOk result (held_of self.new ≡ fin.insert (held_of self.old) (place_of_object object.value) (shared_of object, map (λ b. I.keys b (shared_of object)) (indexes_of self.old))) }
-        ensures was { IfOk result (λ o. option_map shared_of o ≡ option_map (λ h. h.0) (fin.get (held_of self.old) (place_of_object object.value))) }
-        ensures err { OnErr result (held_of self.new ≡ held_of self.old) }
+        ensures ok { OnOk result (indexed_objects_of self.new ≡ fin.insert (indexed_objects_of self.old) (place_of_object object.value) (shared_of object, map (λ b. I.keys b (shared_of object)) (indexes_of self.old))) }
+        ensures was { IfOk result (λ o. option_map shared_of o ≡ option_map (λ h. h.0) (fin.get (indexed_objects_of self.old) (place_of_object object.value))) }
+        ensures err { OnErr result (indexed_objects_of self.new ≡ indexed_objects_of self.old) }
         ensures indexes { indexes_of self.new ≡ indexes_of self.old }
         ensures names { names_of self.new ≡ names_of self.old }
     {
@@ -168,8 +168,8 @@ impl<I: IndexBy> Indexer<I> {
 
     /// Keeps no object at the key, nor in any index; the one that was there is returned.
     pub fn remove(&mut self, key: &ObjectKey) -> Option<Rc<Object>>
-        ensures removed { held_of self.new ≡ fin.remove (held_of self.old) (place_of key.now) }
-        ensures was { option_map shared_of result ≡ option_map (λ h. h.0) (fin.get (held_of self.old) (place_of key.now)) }
+        ensures removed { indexed_objects_of self.new ≡ fin.remove (indexed_objects_of self.old) (place_of key.now) }
+        ensures was { option_map shared_of result ≡ option_map (λ h. h.0) (fin.get (indexed_objects_of self.old) (place_of key.now)) }
         ensures indexes { indexes_of self.new ≡ indexes_of self.old }
         ensures names { names_of self.new ≡ names_of self.old }
     {
@@ -181,7 +181,7 @@ impl<I: IndexBy> Indexer<I> {
 
     /// Keeps no object. Takes no memory.
     pub fn clear(&mut self)
-        ensures held { held_of self.new ≡ fin.empty }
+        ensures held { indexed_objects_of self.new ≡ fin.empty }
         ensures indexes { indexes_of self.new ≡ indexes_of self.old }
         ensures names { names_of self.new ≡ names_of self.old }
     {
@@ -191,14 +191,14 @@ impl<I: IndexBy> Indexer<I> {
 
     /// The object at the key. Takes no memory.
     pub fn get(&self, key: &ObjectKey) -> Option<&Rc<Object>>
-        ensures { option_map (λ o. shared_of o.now) result ≡ option_map (λ h. h.0) (fin.get (held_of self.now) (place_of key.now)) }
+        ensures { option_map (λ o. shared_of o.now) result ≡ option_map (λ h. h.0) (fin.get (indexed_objects_of self.now) (place_of key.now)) }
     {
         kept::object_at(&self.objects, key)
     }
 
     /// The objects, each beside its key, in order of keys.
     pub fn objects(&self) -> Result<Vec<(&ObjectKey, &Rc<Object>)>, AllocError>
-        ensures { IfOk result (λ v. map (λ e. (place_of e.0.now, shared_of e.1.now)) v.items ≡ objects_in (held_of self.now)) }
+        ensures { IfOk result (λ v. map (λ e. (place_of e.0.now, shared_of e.1.now)) v.items ≡ objects_in (indexed_objects_of self.now)) }
     {
         kept::all_of(self.alloc, &self.objects)
     }
@@ -212,7 +212,7 @@ impl<I: IndexBy> Indexer<I> {
 
     /// How many objects there are. Takes no memory.
     pub fn len(&self) -> usize
-        ensures { result ≡ fin.len (held_of self.now) }
+        ensures { result ≡ fin.len (indexed_objects_of self.now) }
     {
         self.objects.len()
     }
@@ -220,7 +220,7 @@ impl<I: IndexBy> Indexer<I> {
     /// The keys of the objects that have a key in the index of this name; None where none has it, or no index
     /// the name. Takes no memory.
     pub fn by_index(&self, name: &str, key: &str) -> Option<&BTreeSet<ObjectKey>>
-        ensures members { (q : ObjectKey) → has_in (option_copied result) q ≡ is_under (held_of self.now) (names_of self.now) name.now key.now (place_of q) }
+        ensures members { (q : ObjectKey) → has_in (option_copied result) q ≡ is_under (indexed_objects_of self.now) (names_of self.now) name.now key.now (place_of q) }
         ensures some { IfSome result (λ keys. 0 < btree_set_len keys.now) }
     {
         objects_under(&self.names, &self.postings, name, key)
@@ -229,7 +229,7 @@ impl<I: IndexBy> Indexer<I> {
     /// The keys in the index of this name that some object has, each once, in order of their bytes; none where no
     /// index has the name.
     pub fn keys(&self, name: &str) -> Result<Vec<&str>, AllocError>
-        ensures members { IfOk result (λ v. (k : List ℕ) → (is_among (map (λ t. t.now) v.items) k ≡ true) ↔ ((q : ObjectKey) × (is_under (held_of self.now) (names_of self.now) name.now k (place_of q) ≡ true))) }
+        ensures members { IfOk result (λ v. (k : List ℕ) → (is_among (map (λ t. t.now) v.items) k ≡ true) ↔ ((q : ObjectKey) × (is_under (indexed_objects_of self.now) (names_of self.now) name.now k (place_of q) ≡ true))) }
         ensures ascending { IfOk result (λ v. IsStrictlySortedBy (slice_cmp nat_cmp) (map (λ t. t.now) v.items)) }
     {
         texts_in(self.alloc, &self.names, &self.postings, name)

@@ -4,7 +4,7 @@ ghost use Rattle.std.specs.Prelude.{◌≡◌, ◌+◌, ◌≤◌, true, ℕ, Li
 ghost use Rattle.std.specs.BTreeMap.{get};
 ghost use Rattle.std.specs.FinMap as fin;
 ghost use Rattle.indexer.specs.Keys.{key_cmp, is_same};
-ghost use Rattle.indexer.specs.Kept.{held_in, seen_of, has_key, objects_in, HoldsPostings};
+ghost use Rattle.indexer.specs.Kept.{indexed_objects_in, seen_of, has_key, objects_in, HoldsPostings};
 ghost use Rattle.indexer.specs.Objects.{place_of, place_of_object, shared_of, texts_of, texts_at, is_among, under_at};
 ghost use Rattle.indexer.specs.declared.object.ObjectKey.{ObjectKey};
 
@@ -46,9 +46,9 @@ pub(crate) fn put(
 ) -> Result<Option<Entry>, AllocError>
     requires { HoldsPostings objects.old postings.old.items }
     ensures holds { HoldsPostings objects.new postings.new.items }
-    ensures ok { OnOk result (held_in objects.new ≡ fin.insert (held_in objects.old) (place_of_object object.value) (shared_of object, texts_of keys.items)) }
-    ensures was { IfOk result (λ o. option_map seen_of o ≡ fin.get (held_in objects.old) (place_of_object object.value)) }
-    ensures err { OnErr result (held_in objects.new ≡ held_in objects.old) }
+    ensures ok { OnOk result (indexed_objects_in objects.new ≡ fin.insert (indexed_objects_in objects.old) (place_of_object object.value) (shared_of object, texts_of keys.items)) }
+    ensures was { IfOk result (λ o. option_map seen_of o ≡ fin.get (indexed_objects_in objects.old) (place_of_object object.value)) }
+    ensures err { OnErr result (indexed_objects_in objects.new ≡ indexed_objects_in objects.old) }
 {
     let kept = shared_by_each(alloc, postings.as_slice(), keys)?;
     match objects.entry(ObjectKey::of(object.as_ref())?)? {
@@ -75,8 +75,8 @@ pub(crate) fn remove(
 ) -> Option<Entry>
     requires { HoldsPostings objects.old postings.old.items }
     ensures holds { HoldsPostings objects.new postings.new.items }
-    ensures removed { held_in objects.new ≡ fin.remove (held_in objects.old) (place_of key.now) }
-    ensures was { option_map seen_of result ≡ fin.get (held_in objects.old) (place_of key.now) }
+    ensures removed { indexed_objects_in objects.new ≡ fin.remove (indexed_objects_in objects.old) (place_of key.now) }
+    ensures was { option_map seen_of result ≡ fin.get (indexed_objects_in objects.old) (place_of key.now) }
 {
     let was = objects.remove(key);
     if let Some(entry) = &was {
@@ -90,7 +90,7 @@ pub(crate) fn object_at<'a>(
     objects: &'a BTreeMap<ObjectKey, Entry>,
     key: &ObjectKey,
 ) -> Option<&'a Rc<Object>>
-    ensures { option_map (λ o. shared_of o.now) result ≡ option_map (λ h. h.0) (fin.get (held_in objects.now) (place_of key.now)) }
+    ensures { option_map (λ o. shared_of o.now) result ≡ option_map (λ h. h.0) (fin.get (indexed_objects_in objects.now) (place_of key.now)) }
 {
     match objects.get(key) {
         Some(entry) => Some(&entry.object),
@@ -103,7 +103,7 @@ pub(crate) fn all_of(
     alloc: Global,
     objects: &BTreeMap<ObjectKey, Entry>,
 ) -> Result<Vec<(&ObjectKey, &Rc<Object>)>, AllocError>
-    ensures { IfOk result (λ v. map (λ e. (place_of e.0.now, shared_of e.1.now)) v.items ≡ objects_in (held_in objects.now)) }
+    ensures { IfOk result (λ v. map (λ e. (place_of e.0.now, shared_of e.1.now)) v.items ≡ objects_in (indexed_objects_in objects.now)) }
 {
     let mut all = Vec::with_capacity(alloc, objects.len())?;
     for (key, entry) in objects.iter() {
@@ -130,7 +130,7 @@ pub(crate) fn handed_out(
 ) -> Vec<(ObjectKey, Rc<Object>)>
     requires none { room.items ≡ [] }
     requires room { vec_len room + length objects.entries ≤ vec_capacity room }
-    ensures { map (λ e. (place_of e.0, shared_of e.1)) result.items ≡ objects_in (held_in objects) }
+    ensures { map (λ e. (place_of e.0, shared_of e.1)) result.items ≡ objects_in (indexed_objects_in objects) }
 {
     let mut all = room;
     for (key, entry) in objects {

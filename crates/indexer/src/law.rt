@@ -2,7 +2,7 @@
 
 ghost use Rattle.std.specs.Prelude.{List, ℕ};
 ghost use Rattle.std.specs.FinMap.{empty};
-ghost use Rattle.indexer.specs.Calls.{Call, after_all, IsFollowed};
+ghost use Rattle.indexer.specs.CallLaws.{Call, after_all, IsFollowed};
 ghost use Rattle.indexer.specs.Objects.{Stored};
 
 /// After any list of calls each object that is kept stands in every index under just its keys by the index's

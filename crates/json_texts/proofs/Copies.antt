@@ -6,8 +6,8 @@ use Rattle.serde_json.specs.Data.{Data, Items, no_items, item, Members, no_membe
 use Rattle.serde_json.specs.View.{items_view, view}
 use Rattle.serde_json.specs.declared.value.Value.{Value}
 use Rattle.fieldpath.specs.Scalars.{ascend}
-use Rattle.fieldpath.specs.Spelled.{member_names}
-use Rattle.fieldpath.proofs.Spelled.{both, both_assoc, both_none, put_last}
+use Rattle.fieldpath.specs.Encodable.{member_names}
+use Rattle.fieldpath.proofs.Encodable.{both, both_assoc, both_none, put_last}
 use Rattle.json_texts.specs.InOrder.{are_ordered, data_of, items_data, members_data}
 use Rattle.json_texts.proofs.Parts.{Entry, Item, names-data, ordered_parts}
 

@@ -8,8 +8,8 @@ use Rattle.serde_json.specs.Find.{is_float}
 use Rattle.serde_json.specs.Read.{number_of, of_json, of_items, of_members}
 use Rattle.serde_json.specs.Written.{outline, items_outline, members_outline, has_float, items_have_float, members_have_float}
 use Rattle.fieldpath.specs.Scalars.{ascend}
-use Rattle.fieldpath.specs.Spelled.{IsSpelled, AreSpelled, MembersAreSpelled, member_names}
-use Rattle.fieldpath.proofs.Spelled.{both, both_assoc, both_none, compact-outline, number_back, put_last}
+use Rattle.fieldpath.specs.Encodable.{IsEncodable, AreEncodable, MembersAreEncodable, member_names}
+use Rattle.fieldpath.proofs.Encodable.{both, both_assoc, both_none, compact-outline, number_back, put_last}
 use Rattle.json_texts.specs.InOrder.{number_or_null, data_of, items_data, members_data, is_whole, names, is_ordered, items_are_ordered, members_are_ordered, data_if_ordered, json_of, in_order}
 use Rattle.json_texts.specs.Laws.{CompactTextsAreOrdered, OrderedTextsAreRead}
 use Rattle.json_texts.proofs.Parts.{names-data}
@@ -69,7 +69,7 @@ whole_back : (n : Num) → is_float n ≡ false → is_whole (Some n) ≡ true
 whole_back n h = ap not h
 
 mutual
-  outline_ordered : (d : Data) → IsSpelled d → has_float d ≡ false → is_ordered (outline d) ≡ true
+  outline_ordered : (d : Data) → IsEncodable d → has_float d ≡ false → is_ordered (outline d) ≡ true
   outline_ordered null s h = refl
   outline_ordered (boolean b) s h = refl
   outline_ordered (number n) s h = ap is_whole (number_back n s h) ∙ whole_back n h
@@ -77,16 +77,16 @@ mutual
   outline_ordered (array ds) s h = items_outline_ordered ds s h
   outline_ordered (object ms) s h = both_true (ap ascend (names-outline ms) ∙ s.0) (members_outline_ordered ms s.1 h)
 
-  items_outline_ordered : (ds : Items) → AreSpelled ds → items_have_float ds ≡ false → items_are_ordered (items_outline ds) ≡ true
+  items_outline_ordered : (ds : Items) → AreEncodable ds → items_have_float ds ≡ false → items_are_ordered (items_outline ds) ≡ true
   items_outline_ordered no_items s h = refl
   items_outline_ordered (item d ds) s h = let p = or_parts (has_float d) _ h in both_true (outline_ordered d s.0 p.0) (items_outline_ordered ds s.1 p.1)
 
-  members_outline_ordered : (ms : Members) → MembersAreSpelled ms → members_have_float ms ≡ false → members_are_ordered (members_outline ms) ≡ true
+  members_outline_ordered : (ms : Members) → MembersAreEncodable ms → members_have_float ms ≡ false → members_are_ordered (members_outline ms) ≡ true
   members_outline_ordered no_members s h = refl
   members_outline_ordered (member k d ms) s h = let p = or_parts (has_float d) _ h in both_true (outline_ordered d s.0 p.0) (members_outline_ordered ms s.1 p.1)
 
 mutual
-  outline_data : (d : Data) → IsSpelled d → has_float d ≡ false → data_of (outline d) ≡ d
+  outline_data : (d : Data) → IsEncodable d → has_float d ≡ false → data_of (outline d) ≡ d
   outline_data null s h = refl
   outline_data (boolean b) s h = refl
   outline_data (number n) s h = ap number_or_null (number_back n s h)
@@ -94,11 +94,11 @@ mutual
   outline_data (array ds) s h = ap array (items_outline_data ds s h)
   outline_data (object ms) s h = ap object (members_outline_data ms s.1 h)
 
-  items_outline_data : (ds : Items) → AreSpelled ds → items_have_float ds ≡ false → items_data (items_outline ds) ≡ ds
+  items_outline_data : (ds : Items) → AreEncodable ds → items_have_float ds ≡ false → items_data (items_outline ds) ≡ ds
   items_outline_data no_items s h = refl
   items_outline_data (item d ds) s h = let p = or_parts (has_float d) _ h in ap₂ item (outline_data d s.0 p.0) (items_outline_data ds s.1 p.1)
 
-  members_outline_data : (ms : Members) → MembersAreSpelled ms → members_have_float ms ≡ false → members_data (members_outline ms) ≡ ms
+  members_outline_data : (ms : Members) → MembersAreEncodable ms → members_have_float ms ≡ false → members_data (members_outline ms) ≡ ms
   members_outline_data no_members s h = refl
   members_outline_data (member k d ms) s h = let p = or_parts (has_float d) _ h in ap₂ (member k) (outline_data d s.0 p.0) (members_outline_data ms s.1 p.1)
 

@@ -7,7 +7,7 @@ use Rattle.json.specs.Json as json
 use Rattle.json.specs.Value.{value_view, items_view, members_view}
 use Rattle.json.specs.declared.value.Value.{Value}
 use Rattle.fieldpath.specs.Scalars.{ascend}
-use Rattle.fieldpath.specs.Spelled.{member_names}
+use Rattle.fieldpath.specs.Encodable.{member_names}
 use Rattle.fieldpath.proofs.Names.{ascend_rest}
 use Rattle.json_texts.specs.InOrder.{are_ordered, is_ordered, items_are_ordered, members_are_ordered, members_data, names}
 

@@ -35,9 +35,9 @@ with_opening b w = record { text = w.text ++ (comma_if w.later ++ b ∷ []); lat
 abbrev pub with_closing : ℕ → Writing → Writing
 with_closing b w = record { text = w.text ++ b ∷ []; later = true }
 
--- the text goes on by the members that `front` puts before others, whatever these are
+-- the text goes on by the members that `prefix` puts before others, whatever these are
 abbrev pub AppendsMembers : (Members → Members) → Writing → Writing → Type 0
-AppendsMembers front old new = (rest : Members) → new.text ++ members_text new.later rest ≡ old.text ++ members_text old.later (front rest)
+AppendsMembers prefix old new = (rest : Members) → new.text ++ members_text new.later rest ≡ old.text ++ members_text old.later (prefix rest)
 
 -- ---- for private clauses: what the library's writer holds
 

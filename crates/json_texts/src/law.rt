@@ -8,7 +8,7 @@ pub fn ordered_texts_are_read()
     ensures { OrderedTextsAreRead }
 {}
 
-/// The compact text of a spelled value without floats, at most 127 deep, is in order, and represents that value.
+/// The compact text of a encodable value without floats, at most 127 deep, is in order, and represents that value.
 pub fn compact_texts_are_ordered()
     ensures { CompactTextsAreOrdered }
 {}

@@ -11,7 +11,7 @@ use Rattle.json.specs.Print.{escape, escape_byte, quoted}
 use Rattle.json.proofs.Printed.Strings.{escape_byte_plain}
 use Rattle.serde_json.specs.Data.{Num, unsigned, negative, float, Data, null, boolean, number, string, array, object, Items, no_items, item, Members, no_members, member}
 use Rattle.serde_json.specs.Written.{comma_if, compact_text, items_text, members_text, number_text}
-use Rattle.fieldpath.specs.Spelled.{IsSpelledNumber, IsSpelled, AreSpelled, MembersAreSpelled}
+use Rattle.fieldpath.specs.Encodable.{IsEncodableNumber, IsEncodable, AreEncodable, MembersAreEncodable}
 use Rattle.watchline.specs.declared.event.EventType.{EventType}
 use Rattle.watchline.specs.declared.event.EventType.TheVariants as event
 use Rattle.watchline.specs.Lines.{line, type_text}
@@ -41,7 +41,7 @@ digits_have_none (d ∷ ds) all =
 decimal_has_none : (n : ℕ) → n < 2 ^ 64 → HasNone (decimal n)
 decimal_has_none n fits = digits_have_none (decimal n) (digits_decimal digits n fits)
 
-number_has_none : (n : Num) → IsSpelledNumber n → HasNone (number_text n)
+number_has_none : (n : Num) → IsEncodableNumber n → HasNone (number_text n)
 number_has_none (unsigned n) fits = decimal_has_none n fits
 number_has_none (negative (pos n)) fits = absurd fits
 number_has_none (negative (negsuc n)) fits = let low : n < 2 ^ 63 = fits in decimal_has_none (suc n) (omega (arith, low))
@@ -88,7 +88,7 @@ comma_has_none true = refl
 comma_has_none false = refl
 
 mutual
-  pub text_has_none : (d : Data) → IsSpelled d → HasNone (compact_text d)
+  pub text_has_none : (d : Data) → IsEncodable d → HasNone (compact_text d)
   text_has_none null s = refl
   text_has_none (boolean true) s = refl
   text_has_none (boolean false) s = refl
@@ -97,11 +97,11 @@ mutual
   text_has_none (array ds) s = items_have_none false ds s
   text_has_none (object ms) s = members_have_none false ms s.1
 
-  items_have_none : (b : Bool) (ds : Items) → AreSpelled ds → HasNone (items_text b ds)
+  items_have_none : (b : Bool) (ds : Items) → AreEncodable ds → HasNone (items_text b ds)
   items_have_none b no_items s = refl
   items_have_none b (item d ds) s = none_both (comma_if b) (compact_text d ++ items_text true ds) (comma_has_none b) (none_both (compact_text d) (items_text true ds) (text_has_none d s.0) (items_have_none true ds s.1))
 
-  members_have_none : (b : Bool) (ms : Members) → MembersAreSpelled ms → HasNone (members_text b ms)
+  members_have_none : (b : Bool) (ms : Members) → MembersAreEncodable ms → HasNone (members_text b ms)
   members_have_none b no_members s = refl
   members_have_none b (member k d ms) s =
       none_both (comma_if b) (quoted k ++ 58 ∷ (compact_text d ++ members_text true ms)) (comma_has_none b)
@@ -116,7 +116,7 @@ type_has_none event.Deleted = refl
 type_has_none event.Bookmark = refl
 type_has_none event.Error = refl
 
-pub shown_has_none : (what : EventType) (d : Data) → IsSpelled d → list_any is_feed (shown what (compact_text d)) ≡ false
+pub shown_has_none : (what : EventType) (d : Data) → IsEncodable d → list_any is_feed (shown what (compact_text d)) ≡ false
 shown_has_none what d s =
     none_both (codes "{\"type\":\"" ++ type_text what ++ codes "\",\"object\":" ++ compact_text d) (codes "}")
     (none_both (codes "{\"type\":\"" ++ type_text what ++ codes "\",\"object\":") (compact_text d) (type_has_none what) (text_has_none d s)) refl

@@ -22,7 +22,7 @@ use Rattle.lists.specs.Body.{Collection, list_text}
 use Rattle.lists.specs.Labels.{labels_of, selection_of}
 use Rattle.lists.specs.Lists.{key_after, list_of, page_limit, page_of, text_at}
 use Rattle.lists.specs.Revision.{revision_of}
-use Rattle.lists.specs.Tokens.{whole_list}
+use Rattle.lists.specs.TokenLaws.{whole_list}
 use Rattle.lists.proofs.Bounds.{revision_between}
 use Rattle.objects.specs.ReadBack.{max_version}
 use Rattle.decoder.specs.Wanted.{Wanted, is_in}
@@ -95,9 +95,9 @@ module _ (wanted : Wanted) (of : Collection) (is : IsWanted wanted of) where
 
   -- ---- what is read
 
-  pub standing_read : (values : Values) (revision : ℕ) (s : Objects) → AreKept of s → revision ≤ max_version → IsUtf8 (list_text of revision (page_of of values s))
+  pub leaf_value_read : (values : Values) (revision : ℕ) (s : Objects) → AreKept of s → revision ≤ max_version → IsUtf8 (list_text of revision (page_of of values s))
       → IsReadAsPage wanted (list_text of revision (page_of of values s)) revision (page_of of values s)
-  standing_read values revision s kept low text = page_is_read wanted of is revision (page_of of values s) (page_fits values s kept) low text
+  leaf_value_read values revision s kept low text = page_is_read wanted of is revision (page_of of values s) (page_fits values s kept) low text
 
   pub answer_read : (values : Values) (current compacted : ℕ) (at : ℕ → Objects) (text : List ℕ) → ((r : ℕ) → compacted ≤ r → r ≤ current → AreKept of (at r)) → compacted ≤ current → current ≤ max_version
       → list_of of values current compacted at ≡ Ok text → IsUtf8 text → (revision : ℕ) × (revision_of current compacted values ≡ Ok revision) × IsReadAsPage wanted text revision (page_of of values (at revision))
@@ -110,5 +110,5 @@ module _ (wanted : Wanted) (of : Collection) (is : IsWanted wanted of) where
           let between = revision_between current compacted order values r (sym revised) in
           let high : r ≤ current = between.1 in
           let within : r ≤ max_version = omega (arith, high, low) in
-          (r, revised, subst (λ t. IsReadAsPage wanted t r (page_of of values (at r))) same (standing_read values r (at r) (kept r between.0 high) within (subst IsUtf8 (sym same) utf8)))
+          (r, revised, subst (λ t. IsReadAsPage wanted t r (page_of of values (at r))) same (leaf_value_read values r (at r) (kept r between.0 high) within (subst IsUtf8 (sym same) utf8)))
       go (Err refusal) revised shown = absurd cc

@@ -20,15 +20,15 @@ use Rattle.schema.specs.Shape.{Shape, text, whole, truth, struct_of, map_of, lis
 use Rattle.schema.specs.ObjectShape.{metadata}
 use Rattle.json_values.specs.Texts.{texts_of}
 use Rattle.lists.specs.Labels.{label_members, labels_of}
-use Rattle.typed.specs.Placed.{ArePlaced, IsPlaced}
+use Rattle.typed.specs.WellTyped.{AreWellTyped, IsWellTyped}
 use Rattle.typed.specs.Printing.{object_or_none, print, print_fields, with_member}
-use Rattle.typed.proofs.Fitting.{content_placed}
+use Rattle.typed.proofs.Fitting.{content_well_typed}
 use Rattle.objects.specs.State.{State}
 use Rattle.objects.specs.ObjectText.{Identity, entry_items, members_printed, metadata_members, metadata_of, object_value, put_entries}
 use Rattle.objects.proofs.Back.{text_read}
 use Rattle.objects.proofs.Envelopes.{found_field, members_back}
 use Rattle.objects.proofs.Taken.{apart, no_some, same_some}
-use Rattle.line_laws.specs.Labels.{LabelsAreOfContents, label_in, text_standing}
+use Rattle.line_laws.specs.Labels.{LabelsAreOfContents, label_in, text_leaf_value}
 use Rattle.line_laws.proofs.LabelTexts.{labels_by}
 use Rattle.line_laws.proofs.LabelsPrinted.{all_texts, member_at}
 use Rattle.line_laws.proofs.LabelsPrinted as printed
@@ -68,24 +68,24 @@ labels_of_two a (Some l) = get_member-put (codes "labels") l (with_member (codes
 
 -- ---- the content of a field
 
-placed_field : (f : List ℕ) (t : Shape) (all : Fields) (c : Content) → shape_at f all ≡ Some t → ArePlaced all c → IsPlaced t (inside (name_text f) c)
-placed_field f t no_fields c is placed = no_some t (sym is)
-placed_field f t (field g s more) c is placed = by (bytes_eq g f) refl is (λ e. placed_field f t more c e placed.1)
+well_typed_field : (f : List ℕ) (t : Shape) (all : Fields) (c : Content) → shape_at f all ≡ Some t → AreWellTyped all c → IsWellTyped t (inside (name_text f) c)
+well_typed_field f t no_fields c is well_typed = no_some t (sym is)
+well_typed_field f t (field g s more) c is well_typed = by (bytes_eq g f) refl is (λ e. well_typed_field f t more c e well_typed.1)
   where
-    by : (b : Bool) → bytes_eq g f ≡ b → cond b (Some s) (shape_at f more) ≡ Some t → (shape_at f more ≡ Some t → IsPlaced t (inside (name_text f) c)) → IsPlaced t (inside (name_text f) c)
+    by : (b : Bool) → bytes_eq g f ≡ b → cond b (Some s) (shape_at f more) ≡ Some t → (shape_at f more ≡ Some t → IsWellTyped t (inside (name_text f) c)) → IsWellTyped t (inside (name_text f) c)
     by true same e later =
         let g_is : g ≡ f = (bytes_decides g f).0 same in
-        subst (λ n. IsPlaced t (inside (name_text n) c)) g_is (subst (λ u. IsPlaced u (inside (name_text g) c)) (same_some s t e) placed.0)
+        subst (λ n. IsWellTyped t (inside (name_text n) c)) g_is (subst (λ u. IsWellTyped u (inside (name_text g) c)) (same_some s t e) well_typed.0)
     by false apart e later = later e
 
-labels_placed : (c : Content) → IsPlaced metadata c → IsPlaced (map_of text false) (inside (name_text (codes "labels")) c)
-labels_placed c (top, (notes, (labels, end))) = labels
+labels_well_typed : (c : Content) → IsWellTyped metadata c → IsWellTyped (map_of text false) (inside (name_text (codes "labels")) c)
+labels_well_typed c (top, (notes, (labels, end))) = labels
 
-each_placed : (c : Content) → IsPlaced (map_of text false) c → (e : List ℕ) → IsPlaced text (inside e c)
-each_placed c (top, each) = each
+each_well_typed : (c : Content) → IsWellTyped (map_of text false) c → (e : List ℕ) → IsWellTyped text (inside e c)
+each_well_typed c (top, each) = each
 
 module _ (all : Fields) (of : Identity) (v : ℕ) (state : State) (key : List ℕ) (lawful : is_lawful (struct_of all false) ≡ true) (has_metadata : shape_at (codes "metadata") all ≡ Some metadata)
-    (placed : IsPlaced (struct_of all false) state.content) where
+    (well_typed : IsWellTyped (struct_of all false) state.content) where
   abbrev in_metadata : Content
   in_metadata = inside (name_text (codes "metadata")) state.content
 
@@ -120,8 +120,8 @@ module _ (all : Fields) (of : Identity) (v : ℕ) (state : State) (key : List �
       ap (λ o. option_and_then as_object (option_and_then (get (codes "labels")) o)) (metadata_in_object of.api_version of.kind meta (members_printed (print (struct_of all false) state.content)))
       ∙ ap (option_and_then as_object) (labels_in_metadata (struct_of all false) of v state ms ∙ ap (get_member (codes "labels")) labels_are ∙ labels_of_two notes labels)
 
-  in_place : (e : List ℕ) → IsPlaced text (inside e in_labels)
-  in_place = each_placed in_labels (labels_placed in_metadata (placed_field (codes "metadata") metadata all state.content has_metadata placed.1))
+  in_place : (e : List ℕ) → IsWellTyped text (inside e in_labels)
+  in_place = each_well_typed in_labels (labels_well_typed in_metadata (well_typed_field (codes "metadata") metadata all state.content has_metadata well_typed.1))
 
   if_any : (ms : Members) → unwrap_or (option_and_then texts_of (option_and_then as_object (object_or_none ms))) [] ≡ unwrap_or (texts_of ms) []
   if_any no_members = refl
@@ -134,7 +134,7 @@ module _ (all : Fields) (of : Identity) (v : ℕ) (state : State) (key : List �
       ∙ ap (value_at key) (if_any (printed.label_members in_labels in_place))
       ∙ labels_by (printed.label_members in_labels in_place) key (all_texts in_labels in_place)
       ∙ member_at in_labels in_place key
-      ∙ ap (option_and_then text_standing) (get-inside (name_text (codes "labels")) in_metadata (name_text key ∷ []) ∙ get-inside (name_text (codes "metadata")) state.content (name_text (codes "labels") ∷ name_text key ∷ []))
+      ∙ ap (option_and_then text_leaf_value) (get-inside (name_text (codes "labels")) in_metadata (name_text key ∷ []) ∙ get-inside (name_text (codes "metadata")) state.content (name_text (codes "labels") ∷ name_text key ∷ []))
 
 pub labels_are_of_contents : LabelsAreOfContents
 labels_are_of_contents text of v state t key shaped said = absurd (true≢false (sym shaped.0))
@@ -142,7 +142,7 @@ labels_are_of_contents whole of v state t key shaped said = absurd (true≢false
 labels_are_of_contents truth of v state t key shaped said = absurd (true≢false (sym shaped.0))
 labels_are_of_contents (struct_of all true) of v state t key shaped said = absurd (true≢false (sym shaped.0))
 labels_are_of_contents (struct_of all false) of v state t key shaped said =
-    read_at all of v state key shaped.1 shaped.2 (content_placed (struct_of all false) ((and_parts (is_well_formed (struct_of all false)) _ shaped.1).0) state.content said.placed.0) t
+    read_at all of v state key shaped.1 shaped.2 (content_well_typed (struct_of all false) ((and_parts (is_well_formed (struct_of all false)) _ shaped.1).0) state.content said.well_typed.0) t
     (text_read (struct_of all false) of v state t shaped said)
 labels_are_of_contents (map_of s b) of v state t key shaped said = absurd (true≢false (sym shaped.0))
 labels_are_of_contents (list_of s kind) of v state t key shaped said = absurd (true≢false (sym shaped.0))

@@ -10,6 +10,6 @@ pub mod Renumbered
 pub mod Said
 pub mod SeenBodies
 pub mod Texts
-pub mod Told
+pub mod Sent
 pub mod Values
 pub mod Waiting

@@ -15,18 +15,18 @@ use Rattle.fieldpath.specs.Elements.{field_name, name_text}
 use Rattle.fieldpath.specs.Scalars.{ascend}
 use Rattle.names.specs.Decimals.{version_of}
 use Rattle.pathmap.specs.Contents.{Content}
-use Rattle.pathmap.specs.Contents as standing
+use Rattle.pathmap.specs.Contents as leaf_value
 use Rattle.pathmap.specs.Insides.{heads, inside}
 use Rattle.pathmap.proofs.Contents.{get-nothing}
 use Rattle.pathmap.proofs.Levels.{get-here-top}
 use Rattle.schema.specs.Lawful.{are_well_formed, is_well_formed, names_of}
 use Rattle.schema.specs.ObjectShape.{IsObjectShape, metadata}
 use Rattle.schema.specs.Shape.{Shape, text, whole, truth, struct_of, map_of, list_of, Fields, no_fields, field, shape_at}
-use Rattle.typed.specs.Placed.{ArePlaced, IsPlaced}
+use Rattle.typed.specs.WellTyped.{AreWellTyped, IsWellTyped}
 use Rattle.typed.specs.Printing.{each_member, object_or_none, print, print_fields, value_of, with_member, with_named}
-use Rattle.typed.proofs.Fitting.{content_placed}
+use Rattle.typed.proofs.Fitting.{content_well_typed}
 use Rattle.objects.specs.State.{State}
-use Rattle.objects.specs.Placed.{IsPlacedState}
+use Rattle.objects.specs.WellTyped.{IsWellTypedState}
 use Rattle.objects.specs.ObjectText.{Identity, entry_items, members_printed, metadata_members, metadata_of, object_value, put_entries}
 use Rattle.objects.specs.ReadBack.{max_version}
 use Rattle.objects.proofs.Envelopes.{found_field, members_back}
@@ -81,9 +81,9 @@ put_texts k t (member l d ms) h = by_order (cmp k l) (put_texts k t ms others)
 abbrev IsText : Option Data → Type 0
 IsText o = (o ≡ None) ⊎ (t : List ℕ) × (o ≡ Some (string t))
 
-printed_text : (c : Content) → IsPlaced text c → IsText (print text c)
+printed_text : (c : Content) → IsWellTyped text c → IsText (print text c)
 printed_text c (inl none) = inl (ap (λ d. option_and_then value_of (fin.get d [])) none ∙ ap (option_and_then value_of) (get-nothing []))
-printed_text c (inr some) = inr (some.0, ap (λ d. option_and_then value_of (fin.get d [])) some.1 ∙ ap (option_and_then value_of) (get-here-top (standing.text some.0)))
+printed_text c (inr some) = inr (some.0, ap (λ d. option_and_then value_of (fin.get d [])) some.1 ∙ ap (option_and_then value_of) (get-here-top (leaf_value.text some.0)))
 
 with_text : (k : Option (List ℕ)) (o : Option Data) (ms : Members) → IsText o → AllTexts ms → AllTexts (with_named k o ms)
 with_text None o ms is h = h
@@ -101,9 +101,9 @@ read_texts (member k d ms) ts is = ap (λ (o : Option Texts). or_malformed Label
 abbrev LabelsRead : Option Data → Type 0
 LabelsRead o = (ts : Texts) × (labels_of (option_and_then unless_null o) ≡ Ok ts)
 
-map_read : (c : Content) → IsPlaced (map_of text false) c → LabelsRead (print (map_of text false) c)
-map_read c placed =
-    let all = each_text (λ e. print text (inside e c)) (λ e. printed_text (inside e c) (placed.1 e)) (heads c) no_members ([], refl) in
+map_read : (c : Content) → IsWellTyped (map_of text false) c → LabelsRead (print (map_of text false) c)
+map_read c well_typed =
+    let all = each_text (λ e. print text (inside e c)) (λ e. printed_text (inside e c) (well_typed.1 e)) (heads c) no_members ([], refl) in
     (all.0, read_texts (each_member (λ e. print text (inside e c)) (heads c) no_members) all.0 all.1)
 
 labels_found : (a l : Option Data) → get_member (codes "labels") (with_member (codes "labels") l (with_member (codes "annotations") a no_members)) ≡ l
@@ -112,42 +112,42 @@ labels_found None (Some l) = refl
 labels_found (Some a) None = refl
 labels_found (Some a) (Some l) = refl
 
-metadata_read : (c : Content) → IsPlaced metadata c → LabelsRead (get_member (codes "labels") (members_printed (print metadata c)))
-metadata_read c placed =
+metadata_read : (c : Content) → IsWellTyped metadata c → LabelsRead (get_member (codes "labels") (members_printed (print metadata c)))
+metadata_read c well_typed =
     let a = print (map_of text false) (inside (name_text (codes "annotations")) c) in
     let l = print (map_of text false) (inside (name_text (codes "labels")) c) in
     let own = with_member (codes "labels") l (with_member (codes "annotations") a no_members) in
-    let fields = placed.1 in
+    let fields = well_typed.1 in
     let more = fields.1 in
     subst LabelsRead (sym (ap (get_member (codes "labels")) (members_back own) ∙ labels_found a l)) (map_read (inside (name_text (codes "labels")) c) more.0)
 
-field_placed : (k : List ℕ) (t : Shape) (all : Fields) (c : Content) → shape_at k all ≡ Some t → ArePlaced all c → IsPlaced t (inside (name_text k) c)
-field_placed k t no_fields c is are = absurd cc
-field_placed k t (field f s more) c is are = by_name (bytes_eq f k) refl (λ there. field_placed k t more c there are.1) is
+field_well_typed : (k : List ℕ) (t : Shape) (all : Fields) (c : Content) → shape_at k all ≡ Some t → AreWellTyped all c → IsWellTyped t (inside (name_text k) c)
+field_well_typed k t no_fields c is are = absurd cc
+field_well_typed k t (field f s more) c is are = by_name (bytes_eq f k) refl (λ there. field_well_typed k t more c there are.1) is
   where
-    by_name : (b : Bool) → bytes_eq f k ≡ b → (shape_at k more ≡ Some t → IsPlaced t (inside (name_text k) c)) → cond b (Some s) (shape_at k more) ≡ Some t → IsPlaced t (inside (name_text k) c)
+    by_name : (b : Bool) → bytes_eq f k ≡ b → (shape_at k more ≡ Some t → IsWellTyped t (inside (name_text k) c)) → cond b (Some s) (shape_at k more) ≡ Some t → IsWellTyped t (inside (name_text k) c)
     by_name true named later there =
         let same : f ≡ k = (bytes_decides f k).0 named in
         let shaped : s ≡ t = cc in
-        subst (λ u. IsPlaced u (inside (name_text k) c)) shaped (subst (λ n. IsPlaced s (inside (name_text n) c)) same are.0)
+        subst (λ u. IsWellTyped u (inside (name_text k) c)) shaped (subst (λ n. IsWellTyped s (inside (name_text n) c)) same are.0)
     by_name false named later there = later there
 
-struct_labels : (all : Fields) (c : Content) → is_well_formed (struct_of all false) ≡ true → IsPlaced (struct_of all false) c → shape_at (codes "metadata") all ≡ Some metadata
+struct_labels : (all : Fields) (c : Content) → is_well_formed (struct_of all false) ≡ true → IsWellTyped (struct_of all false) c → shape_at (codes "metadata") all ≡ Some metadata
     → LabelsRead (get_member (codes "labels") (metadata_members (print (struct_of all false) c)))
-struct_labels all c formed placed has_metadata =
+struct_labels all c formed well_typed has_metadata =
     let up : ascend (names_of all) ≡ true = (and_parts (ascend (names_of all)) (are_well_formed all) formed).0 in
     let there : get_member (codes "metadata") (members_printed (print (struct_of all false) c)) ≡ print metadata (inside (name_text (codes "metadata")) c)
     = ap (get_member (codes "metadata")) (members_back (print_fields all c no_members)) ∙ found_field (codes "metadata") metadata all c no_members up has_metadata refl in
-    subst (λ o. LabelsRead (get_member (codes "labels") (members_printed o))) (sym there) (metadata_read (inside (name_text (codes "metadata")) c) (field_placed (codes "metadata") metadata all c has_metadata placed.1))
+    subst (λ o. LabelsRead (get_member (codes "labels") (members_printed o))) (sym there) (metadata_read (inside (name_text (codes "metadata")) c) (field_well_typed (codes "metadata") metadata all c has_metadata well_typed.1))
 
-labels_read : (s : Shape) (c : Content) → IsObjectShape s → is_well_formed s ≡ true → IsPlaced s c → LabelsRead (get_member (codes "labels") (metadata_members (print s c)))
-labels_read text c shaped formed placed = absurd (true≢false (sym shaped.0))
-labels_read whole c shaped formed placed = absurd (true≢false (sym shaped.0))
-labels_read truth c shaped formed placed = absurd (true≢false (sym shaped.0))
-labels_read (struct_of all true) c shaped formed placed = absurd (true≢false (sym shaped.0))
-labels_read (struct_of all false) c shaped formed placed = struct_labels all c formed placed shaped.2
-labels_read (map_of s b) c shaped formed placed = absurd (true≢false (sym shaped.0))
-labels_read (list_of s kind) c shaped formed placed = absurd (true≢false (sym shaped.0))
+labels_read : (s : Shape) (c : Content) → IsObjectShape s → is_well_formed s ≡ true → IsWellTyped s c → LabelsRead (get_member (codes "labels") (metadata_members (print s c)))
+labels_read text c shaped formed well_typed = absurd (true≢false (sym shaped.0))
+labels_read whole c shaped formed well_typed = absurd (true≢false (sym shaped.0))
+labels_read truth c shaped formed well_typed = absurd (true≢false (sym shaped.0))
+labels_read (struct_of all true) c shaped formed well_typed = absurd (true≢false (sym shaped.0))
+labels_read (struct_of all false) c shaped formed well_typed = struct_labels all c formed well_typed shaped.2
+labels_read (map_of s b) c shaped formed well_typed = absurd (true≢false (sym shaped.0))
+labels_read (list_of s kind) c shaped formed well_typed = absurd (true≢false (sym shaped.0))
 
 -- ---- what stands in the envelope
 
@@ -222,7 +222,7 @@ texts_read : (wanted : Wanted) (namespace name version : List ℕ) (v : ℕ) (la
 texts_read wanted namespace name version v labels body inside_it numbered =
     ap₂ (λ b o. (unless b Namespace >>= λ u. Ok namespace) >>= λ ns. or_malformed Version o >>= λ r. Ok (stored ns name r labels body)) inside_it numbered
 
-module _ (wanted : Wanted) (s : Shape) (of : Identity) (v : ℕ) (state : State) (shaped : IsObjectShape s) (placed : IsPlacedState s state) (low : v ≤ max_version) (has : HasPlace wanted of) where
+module _ (wanted : Wanted) (s : Shape) (of : Identity) (v : ℕ) (state : State) (shaped : IsObjectShape s) (well_typed : IsWellTypedState s state) (low : v ≤ max_version) (has : HasPlace wanted of) where
   abbrev base : Members
   base = members_printed (print s state.content)
 
@@ -242,7 +242,7 @@ module _ (wanted : Wanted) (s : Shape) (of : Identity) (v : ℕ) (state : State)
   formed = (and_parts (is_well_formed s) _ shaped.1).0
 
   read_labels : LabelsRead (get_member (codes "labels") own_labels)
-  read_labels = labels_read s state.content shaped formed (content_placed s formed state.content placed.0)
+  read_labels = labels_read s state.content shaped formed (content_well_typed s formed state.content well_typed.0)
 
   labels_there : get_member (codes "labels") meta ≡ get_member (codes "labels") own_labels
   labels_there = labels_stay (string of.name) (string of.namespace) (string (decimal v)) listed ∙ entries_other (entry_items s of.api_version (fin.entries state.owners)) own_labels
@@ -286,6 +286,6 @@ module _ (wanted : Wanted) (s : Shape) (of : Identity) (v : ℕ) (state : State)
   pub object_read : (o : Stored) × (object_of wanted (object_value s of v state) ≡ Ok o) × IsStored s of v state o
   object_read = (
     stored of.namespace of.name v read_labels.0 (compact_text (object top)),
-    (ap (object_of wanted) value_is ∙ value_read_as (ap has_float (sym value_is) ∙ (value_textual s shaped.1 of v state placed.0).1)),
+    (ap (object_of wanted) value_is ∙ value_read_as (ap has_float (sym value_is) ∙ (value_textual s shaped.1 of v state well_typed.0).1)),
     record { of_namespace = refl; of_name = refl; of_revision = refl; labels_are = read_labels.1; text_is = sym (text_is s of v state ∙ ap compact_text value_is) },
   )

@@ -5,8 +5,8 @@ use Rattle.std.specs.declared.result.Result.TheVariants.{Ok}
 use Rattle.serde_json.specs.Data.{Data, Items, no_items, item, depth, items_depth}
 use Rattle.serde_json.specs.Read.{read, max_depth}
 use Rattle.serde_json.specs.Written.{compact_text, has_float, items_have_float}
-use Rattle.fieldpath.specs.Spelled.{IsSpelled, AreSpelled}
-use Rattle.fieldpath.proofs.Spelled.{compact-read}
+use Rattle.fieldpath.specs.Encodable.{IsEncodable, AreEncodable}
+use Rattle.fieldpath.proofs.Encodable.{compact-read}
 use Rattle.names.specs.Decimals.{version_of}
 use Rattle.history.specs.History.{Key, Object}
 use Rattle.history.specs.Seen.{SeenPage}
@@ -34,9 +34,9 @@ Entries = List (Key × Object)
 
 -- ---- the text as JSON
 
-list_spelled : (of : Collection) (revision : ℕ) (token : Option (List ℕ)) (ds : Items) → AreSpelled ds → IsSpelled (list_value of (metadata_of revision token) ds)
-list_spelled of revision None ds are = (refl, (tt, (are, (tt, ((refl, (tt, tt)), tt)))))
-list_spelled of revision (Some t) ds are = (refl, (tt, (are, (tt, ((refl, (tt, (tt, tt))), tt)))))
+list_encodable : (of : Collection) (revision : ℕ) (token : Option (List ℕ)) (ds : Items) → AreEncodable ds → IsEncodable (list_value of (metadata_of revision token) ds)
+list_encodable of revision None ds are = (refl, (tt, (are, (tt, ((refl, (tt, tt)), tt)))))
+list_encodable of revision (Some t) ds are = (refl, (tt, (are, (tt, ((refl, (tt, (tt, tt))), tt)))))
 
 list_whole : (of : Collection) (revision : ℕ) (token : Option (List ℕ)) (ds : Items) → items_have_float ds ≡ false → has_float (list_value of (metadata_of revision token) ds) ≡ false
 list_whole of revision None ds none = ap (λ b. b || false) none
@@ -46,11 +46,11 @@ list_shallow : (of : Collection) (revision : ℕ) (token : Option (List ℕ)) (d
 list_shallow of revision None ds low = omega (arith, low)
 list_shallow of revision (Some t) ds low = omega (arith, low)
 
-list_read : (of : Collection) (revision : ℕ) (token : Option (List ℕ)) (ds : Items) → AreSpelled ds → items_have_float ds ≡ false → items_depth ds ≤ 22
+list_read : (of : Collection) (revision : ℕ) (token : Option (List ℕ)) (ds : Items) → AreEncodable ds → items_have_float ds ≡ false → items_depth ds ≤ 22
     → read (joined_text of (metadata_of revision token) (item_texts ds)) ≡ Some (list_value of (metadata_of revision token) ds)
 list_read of revision token ds are none low =
     ap read (lists_are_json of (metadata_of revision token) ds)
-    ∙ compact-read (list_value of (metadata_of revision token) ds) (list_spelled of revision token ds are) (list_whole of revision token ds none) (list_shallow of revision token ds low)
+    ∙ compact-read (list_value of (metadata_of revision token) ds) (list_encodable of revision token ds are) (list_whole of revision token ds none) (list_shallow of revision token ds low)
 
 -- ---- the page that the value is
 
@@ -73,9 +73,9 @@ found_is : (wanted : Wanted) (of : Collection) (revision : ℕ) (token : Option 
 found_is wanted of revision None ds = refl
 found_is wanted of revision (Some t) ds = refl
 
-filled_by : (front : List ℕ) (b : ℕ) (back : List ℕ) → unless_empty (front ++ b ∷ back) ≡ Some (front ++ b ∷ back)
+filled_by : (prefix : List ℕ) (b : ℕ) (back : List ℕ) → unless_empty (prefix ++ b ∷ back) ≡ Some (prefix ++ b ∷ back)
 filled_by [] b back = refl
-filled_by (x ∷ front) b back = refl
+filled_by (x ∷ prefix) b back = refl
 
 token_goes_on : (revision : ℕ) (next : Option Key) → goes_on (option_map (continued_at revision) next) ≡ Ok (option_map (continued_at revision) next)
 token_goes_on revision None = refl
@@ -102,7 +102,7 @@ page_read wanted of revision next ds objects is low are =
 record AreItems (wanted : Wanted) (es : Entries) : Type 0 where
   items : Items
   texts : map (λ e. e.1.body) es ≡ item_texts items
-  spelled : AreSpelled items
+  encodable : AreEncodable items
   whole : items_have_float items ≡ false
   shallow : items_depth items ≤ 22
   objects : List Stored
@@ -137,10 +137,10 @@ module _ (wanted : Wanted) (of : Collection) (is : IsWanted wanted of) where
     fits = object_shown kept.shape (identity_of of k) o.revision kept.state o.body kept.shaped kept.says
 
     pub taken_as : (x : Stored) × (object_of wanted value ≡ Ok x) × IsStored kept.shape (identity_of of k) o.revision kept.state x
-    taken_as = object_read wanted kept.shape (identity_of of k) o.revision kept.state kept.shaped kept.says.placed kept.says.numbered (place k o kept within)
+    taken_as = object_read wanted kept.shape (identity_of of k) o.revision kept.state kept.shaped kept.says.well_typed kept.says.numbered (place k o kept within)
 
     low : depth value ≤ 22
-    low = value_within kept.shape kept.shaped.1 kept.state kept.says.placed.0 (identity_of of k) o.revision
+    low = value_within kept.shape kept.shaped.1 kept.state kept.says.well_typed.0 (identity_of of k) o.revision
 
     pub one_read : IsReadAs wanted k o taken_as.0
     one_read =
@@ -159,7 +159,7 @@ module _ (wanted : Wanted) (of : Collection) (is : IsWanted wanted of) where
         record {
           items = item value rest.items;
           texts = ap₂ (λ t ts. t ∷ ts) fits.1 rest.texts;
-          spelled = (first.spelled, rest.spelled);
+          encodable = (first.encodable, rest.encodable);
           whole = ap₂ (λ a b. a || b) first.whole rest.whole;
           shallow = deeper (depth value) (items_depth rest.items) low rest.shallow;
           objects = taken_as.0 ∷ rest.objects;
@@ -168,7 +168,7 @@ module _ (wanted : Wanted) (of : Collection) (is : IsWanted wanted of) where
         }
 
   all_items : (es : Entries) → AreWanted wanted of es → AreItems wanted es
-  all_items [] are = record { items = no_items; texts = refl; spelled = tt; whole = refl; shallow = zero-le; objects = []; are = refl; read_as = tt }
+  all_items [] are = record { items = no_items; texts = refl; encodable = tt; whole = refl; shallow = zero-le; objects = []; are = refl; read_as = tt }
   all_items (e ∷ es) are = one_more e.0 e.1 are.0.0 are.0.1 es (all_items es are.1)
 
   pub page_is_read : (revision : ℕ) (page : SeenPage) → AreWanted wanted of page.found → revision ≤ max_version → IsUtf8 (list_text of revision page) → IsReadAsPage wanted (list_text of revision page) revision page
@@ -178,7 +178,7 @@ module _ (wanted : Wanted) (of : Collection) (is : IsWanted wanted of) where
       let same : list_text of revision page ≡ joined_text of (metadata_of revision token) (item_texts found.items) = ap (joined_text of (metadata_of revision token)) found.texts in (
         found.objects,
         ap (λ (r : Read Data). r >>= page_of wanted)
-            (value_read (list_text of revision page) (list_value of (metadata_of revision token) found.items) text (ap read same ∙ list_read of revision token found.items found.spelled found.whole found.shallow))
+            (value_read (list_text of revision page) (list_value of (metadata_of revision token) found.items) text (ap read same ∙ list_read of revision token found.items found.encodable found.whole found.shallow))
             ∙ page_read wanted of revision page.next found.items found.objects is low found.are,
         found.read_as,
       )

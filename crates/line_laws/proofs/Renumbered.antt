@@ -10,7 +10,7 @@ use Rattle.serde_json.specs.Read.{read}
 use Rattle.serde_json.specs.Written.{compact_text, has_float}
 use Rattle.serde_json.proofs.Views.{get_member-put, get_member-put_other}
 use Rattle.fieldpath.specs.Scalars.{ascend}
-use Rattle.fieldpath.specs.Spelled.{member_names}
+use Rattle.fieldpath.specs.Encodable.{member_names}
 use Rattle.fieldset.specs.FieldsV1 as v1
 use Rattle.pathmap.specs.Contents.{PathSet, marked}
 use Rattle.schema.specs.Lawful.{depth_of, is_lawful, is_well_formed}
@@ -18,11 +18,11 @@ use Rattle.schema.specs.ObjectShape.{IsObjectShape}
 use Rattle.schema.specs.Shape.{Shape}
 use Rattle.schema.proofs.Members.{put_turned}
 use Rattle.typed.specs.Fitting.{IsContent}
-use Rattle.typed.specs.Placed.{ReadsBack}
+use Rattle.typed.specs.WellTyped.{ReadsBack}
 use Rattle.typed.specs.Printing.{print}
 use Rattle.typed.proofs.Depths.{content_deep}
 use Rattle.objects.proofs.FieldTexts.{members_fine, put_depth}
-use Rattle.typed.proofs.Fitting.{content_placed}
+use Rattle.typed.proofs.Fitting.{content_well_typed}
 use Rattle.typed.proofs.RoundTrip.{round}
 use Rattle.typed.proofs.Spelling.{lawful_depth}
 use Rattle.objects.specs.State.{State}
@@ -111,10 +111,10 @@ module _ (s : Shape) (of : Identity) (state : State) (lawful : is_lawful s ≡ t
       ∙ ap (λ (b : Bool). unwrap_or (cond b None (Some (compact_text (object_value s of r state)))) text) (clean r)
 
 pub shows_text : (s : Shape) (of : Identity) (v r : ℕ) (state : State) (text : List ℕ) → IsObjectShape s → IsObjectText s of v state text → text_at_version r text ≡ object_text s of r state
-shows_text s of v r state text shaped said = text_over s of state shaped.1 said.placed.0 v r text (text_read s of v state text shaped said)
+shows_text s of v r state text shaped said = text_over s of state shaped.1 said.well_typed.0 v r text (text_read s of v state text shaped said)
 
 pub shows_object : (s : Shape) (of : Identity) (v r : ℕ) (state : State) (text : List ℕ) → IsObjectShape s → IsObjectText s of v state text → r ≤ max_version → IsObjectText s of r state (text_at_version r text)
-shows_object s of v r state text shaped said low = record { placed = said.placed; numbered = low; is_text = shows_text s of v r state text shaped said }
+shows_object s of v r state text shaped said low = record { well_typed = said.well_typed; numbered = low; is_text = shows_text s of v r state text shaped said }
 
 -- ---- how deep
 
@@ -176,7 +176,7 @@ module _ (s : Shape) (lawful : is_lawful s ≡ true) where
     printed_within : (d : Data) → print s state.content ≡ Some d → depth d ≤ 16
     printed_within d is =
         let formed = (and_parts (is_well_formed s) _ lawful).0 in
-        let reads = (subst (λ o. ReadsBack s o state.content) is (round s state.content formed (content_placed s formed state.content content))).1 in
+        let reads = (subst (λ o. ReadsBack s o state.content) is (round s state.content formed (content_well_typed s formed state.content content))).1 in
         let inside : depth d ≤ depth_of s = content_deep s d state.content reads in
         let low : depth_of s ≤ 16 = lawful_depth s lawful in
         omega (arith, inside, low)
@@ -203,7 +203,7 @@ module _ (s : Shape) (lawful : is_lawful s ≡ true) where
 pub has_room : (s : Shape) (of : Identity) (v : ℕ) (state : State) → is_lawful s ≡ true → IsContent s state.content → IsShown (object_value s of v state)
 has_room s of v state lawful content =
     let low : depth (object_value s of v state) ≤ 22 = value_within s lawful state content of v in
-    record { spelled = (value_textual s lawful of v state content).0; whole = (value_textual s lawful of v state content).1; shallow = omega (arith, low) }
+    record { encodable = (value_textual s lawful of v state content).0; whole = (value_textual s lawful of v state content).1; shallow = omega (arith, low) }
 
 pub text_is : (s : Shape) (of : Identity) (v : ℕ) (state : State) → object_text s of v state ≡ compact_text (object_value s of v state)
 unfolding object_text

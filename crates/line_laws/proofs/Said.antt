@@ -62,10 +62,10 @@ shown_utf8 : (k : SeenKind) (s : Shape) (of : Identity) (v : ℕ) (state : State
 shown_utf8 Added s of v state o shaped said low text = subst IsUtf8 (said.is_text ∙ text_is s of v state) text
 shown_utf8 Modified s of v state o shaped said low text = subst IsUtf8 (said.is_text ∙ text_is s of v state) text
 shown_utf8 Deleted s of v state o shaped said low text =
-    let spelled = (has_room s of v state shaped.1 said.placed.0).spelled in
-    let texts = has_texts (object_value s of v state) spelled (subst IsUtf8 (said.is_text ∙ text_is s of v state) text) in
+    let encodable = (has_room s of v state shaped.1 said.well_typed.0).encodable in
+    let texts = has_texts (object_value s of v state) encodable (subst IsUtf8 (said.is_text ∙ text_is s of v state) text) in
     text_utf8 (object_value s of o.revision state)
-    (renumbered_texts o.revision (object_value s of v state) (object_value s of o.revision state) low texts (object_over s of state shaped.1 said.placed.0 v o.revision))
+    (renumbered_texts o.revision (object_value s of v state) (object_value s of o.revision state) low texts (object_over s of state shaped.1 said.well_typed.0 v o.revision))
 
 pub change_read : (wanted : Wanted) (s : Shape) (of : Identity) (v : ℕ) (state : State) (x : SeenChange) (o : Stored) → IsObjectShape s → IsObjectText s of v state x.object.body
     → x.object.revision ≤ max_version → IsUtf8 x.object.body → object_of wanted (object_value s of (version_shown x.kind v x.object.revision) state) ≡ Ok o
@@ -74,12 +74,12 @@ change_read wanted s of v state x o shaped said low text is =
     let version = version_shown x.kind v x.object.revision in
     let same : text_shown x.kind x.object ≡ compact_text (object_value s of version state) = shown_text x.kind s of v state x.object shaped said in
     ap (λ t. line_in wanted (shown (type_of x.kind) t)) same
-    ∙ line_says wanted (type_of x.kind) (object_value s of version state) (taken x.kind o) (has_room s of version state shaped.1 said.placed.0) (shown_utf8 x.kind s of v state x.object shaped said low text)
+    ∙ line_says wanted (type_of x.kind) (object_value s of version state) (taken x.kind o) (has_room s of version state shaped.1 said.well_typed.0) (shown_utf8 x.kind s of v state x.object shaped said low text)
     (object_line wanted x.kind (object_value s of version state) o is)
 
 pub object_shown : (s : Shape) (of : Identity) (v : ℕ) (state : State) (text : List ℕ) → IsObjectShape s → IsObjectText s of v state text
     → IsShown (object_value s of v state) × (text ≡ compact_text (object_value s of v state))
-object_shown s of v state text shaped said = (has_room s of v state shaped.1 said.placed.0, said.is_text ∙ text_is s of v state)
+object_shown s of v state text shaped said = (has_room s of v state shaped.1 said.well_typed.0, said.is_text ∙ text_is s of v state)
 
 -- ---- bookmarks
 
@@ -100,9 +100,9 @@ pub version_filled : (xs : List ℕ) (v : ℕ) → version_of xs ≡ Some v → 
 version_filled [] v is = absurd cc
 version_filled (x ∷ xs) v is = refl
 
-pub joined_filled : (front back : List ℕ) → unless_empty (front ++ codes "/" ++ back) ≡ Some (front ++ codes "/" ++ back)
+pub joined_filled : (prefix back : List ℕ) → unless_empty (prefix ++ codes "/" ++ back) ≡ Some (prefix ++ codes "/" ++ back)
 joined_filled [] back = refl
-joined_filled (x ∷ front) back = refl
+joined_filled (x ∷ prefix) back = refl
 
 pub itself : (xs : List ℕ) → bytes_eq xs xs ≡ true
 itself xs = (bytes_decides xs xs).1 refl
@@ -120,7 +120,7 @@ bookmark_is wanted r low some =
     ∙ ap (or_malformed Version) (version_back r low)
 
 pub bookmark_fits : (api_version kind version : List ℕ) → IsShown (bookmark_value api_version kind version)
-bookmark_fits api_version kind version = record { spelled = (refl, (tt, (tt, ((refl, (tt, tt)), tt)))); whole = refl; shallow = omega arith }
+bookmark_fits api_version kind version = record { encodable = (refl, (tt, (tt, ((refl, (tt, tt)), tt)))); whole = refl; shallow = omega arith }
 
 ascii : (xs : List ℕ) → are_ascii xs ≡ true → IsUtf8 xs
 ascii = IsUtf8-are_ascii
@@ -140,7 +140,7 @@ bookmark_read wanted r low a k some =
 -- ---- errors
 
 pub expired_fits : (message : List ℕ) → IsShown (expired_value message)
-expired_fits message = record { spelled = (refl, (tt, (omega arith, (tt, (tt, ((refl, tt), (tt, (tt, tt)))))))); whole = refl; shallow = omega arith }
+expired_fits message = record { encodable = (refl, (tt, (omega arith, (tt, (tt, ((refl, tt), (tt, (tt, tt)))))))); whole = refl; shallow = omega arith }
 
 message_utf8 : (r c : ℕ) → r ≤ max_version → c ≤ max_version → IsUtf8 (expired_message r c)
 message_utf8 r c low under =

@@ -1,4 +1,4 @@
--- What holds of each object that a history's changes leave, and stays at a later revision, holds of each object that a watch has still to tell.
+-- What holds of each object that a history's changes leave, and stays at a later revision, holds of each object that a watch has still to send.
 use Rattle.std.proofs.Common.{◌≡◌, ℕ, Bool, true, false, cond, List, [], ◌∷◌, ◌++◌, map, take, zero, suc, refl, sym, subst, ◌∙◌, Option, Some, None, option_map}
 use Rattle.std.specs.Prelude.{IfSome, nat_le, nat_lt}
 use Rattle.std.specs.Ordering.{is_lt}
@@ -11,7 +11,7 @@ use Rattle.history.proofs.Lists.{all-filter}
 use Rattle.history.proofs.Selecting.{entries-selected}
 use Rattle.objects.proofs.Taken.{no_some}
 use Rattle.watchline.specs.Lines.{added}
-use Rattle.watchline.specs.Watches.{Cursor, Left, changes_left, coming, entries_left, from_history, key_at, left_from, none_left, objects_left, wanted}
+use Rattle.watchline.specs.Watches.{Cursor, InitialLeft, changes_left, coming, entries_left, from_history, key_at, initial_left_from, no_initial_left, objects_left, wanted}
 use Rattle.line_laws.proofs.Kept.{each_entry}
 
 abbrev Entries : Type 0
@@ -104,10 +104,10 @@ among P R stays seen (c ∷ cs) s all are =
 entries_are : (P : Object → Type 0) (s : Objects) → AreAll P s → AllByRecursion (λ e. P e.1) (fin.entries s)
 entries_are P s all = each_entry (λ k o. P o) (fin.entries s) (fin.entries_sorted s) (λ k o there. all k o (fin.get-entries s k ∙ there))
 
-past_are : (P : Object → Type 0) (kind : ℕ) (left : Left) (es : Entries) → AllByRecursion (λ e. P e.1) es → AllByRecursion (λ e. P e.1) (entries_left kind left es)
-past_are P kind none_left es all = tt
-past_are P kind (left_from None) es all = all
-past_are P kind (left_from (Some place)) es all = all-filter (λ (e : Key × Object). P e.1) (λ e. is_lt (key_cmp (key_at kind place) e.0)) es all
+past_are : (P : Object → Type 0) (kind : ℕ) (left : InitialLeft) (es : Entries) → AllByRecursion (λ e. P e.1) es → AllByRecursion (λ e. P e.1) (entries_left kind left es)
+past_are P kind no_initial_left es all = tt
+past_are P kind (initial_left_from None) es all = all
+past_are P kind (initial_left_from (Some place)) es all = all-filter (λ (e : Key × Object). P e.1) (λ e. is_lt (key_cmp (key_at kind place) e.0)) es all
 
 selected_are : (P : Object → Type 0) (seen : Selection) (s : Objects) → AreAll P s → AllByRecursion (λ e. P e.1) (fin.entries (selected seen s))
 selected_are P seen s all =
@@ -117,14 +117,14 @@ added_are : (P : Object → Type 0) (es : Entries) → AllByRecursion (λ e. P e
 added_are P [] all = tt
 added_are P (e ∷ es) all = (all.0, added_are P es all.1)
 
--- ---- all that is still to be told
+-- ---- all that is still to be sent
 
 pub all_coming : (P : Object → Type 0) (R : ℕ → Type 0) → Stays P R → (h : History) (w : Cursor) → AllByRecursion (Leaves P R) h.changes → AllSeen P (coming (from_history h) w)
 all_coming P R stays h w are =
-    let standing : AreAll P (state_at h.changes w.position) =
+    let leaf_value : AreAll P (state_at h.changes w.position) =
     changed_are P R (up_to w.position h.changes) fin.empty (λ k o there. no_some o (sym there ∙ fin.get-empty key_cmp k)) (all-filter (Leaves P R) (λ c. nat_le c.revision w.position) h.changes are) in
     all_both (λ (x : SeenChange). P x.object) (map added (objects_left (from_history h) w)) (changes_left (from_history h) w)
     (added_are P (objects_left (from_history h) w)
-    (past_are P w.kind w.left (fin.entries (selected (wanted w) (state_at h.changes w.position))) (selected_are P (wanted w) (state_at h.changes w.position) standing)))
-    (among P R stays (wanted w) (up_to h.current (later w.position h.changes)) (state_at h.changes w.position) standing
+    (past_are P w.kind w.left (fin.entries (selected (wanted w) (state_at h.changes w.position))) (selected_are P (wanted w) (state_at h.changes w.position) leaf_value)))
+    (among P R stays (wanted w) (up_to h.current (later w.position h.changes)) (state_at h.changes w.position) leaf_value
     (all-filter (Leaves P R) (λ c. nat_le c.revision h.current) (later w.position h.changes) (all-filter (Leaves P R) (λ c. nat_lt w.position c.revision) h.changes are)))

@@ -13,7 +13,7 @@ use Rattle.json.proofs.Printed.Utf8.{are_ascii, IsUtf8-are_ascii, IsUtf8-boolean
 use Rattle.serde_json.specs.Data.{Num, unsigned, negative, float, Data, null, boolean, number, string, array, object, Items, no_items, item, Members, no_members, member, put}
 use Rattle.serde_json.specs.Find.{as_object, get_member}
 use Rattle.serde_json.specs.Written.{comma_if, compact_text, items_text, members_text, number_text}
-use Rattle.fieldpath.specs.Spelled.{IsSpelledNumber, IsSpelled, AreSpelled, MembersAreSpelled}
+use Rattle.fieldpath.specs.Encodable.{IsEncodableNumber, IsEncodable, AreEncodable, MembersAreEncodable}
 use Rattle.objects.specs.ReadBack.{max_version}
 use Rattle.objects.proofs.Taken.{same_some}
 use Rattle.json_values.specs.Members.{less}
@@ -21,7 +21,7 @@ use Rattle.watchline.specs.Versions.{metadata_at, value_at, value_of}
 
 -- ---- of texts that are UTF-8
 
-number_utf8 : (n : Num) → IsSpelledNumber n → IsUtf8 (number_text n)
+number_utf8 : (n : Num) → IsEncodableNumber n → IsUtf8 (number_text n)
 number_utf8 (unsigned n) fits = IsUtf8-from_ascii (decimal n) (IsAscii-decimal n fits)
 number_utf8 (negative (pos n)) fits = absurd fits
 number_utf8 (negative (negsuc n)) fits =
@@ -38,7 +38,7 @@ abbrev mutual
   pub HasTexts : Data → Type 0
   HasTexts null = Unit {0}
   HasTexts (boolean b) = Unit {0}
-  HasTexts (number n) = IsSpelledNumber n
+  HasTexts (number n) = IsEncodableNumber n
   HasTexts (string s) = IsUtf8 s
   HasTexts (array ds) = ItemsHaveTexts ds
   HasTexts (object ms) = MembersHaveTexts ms
@@ -111,27 +111,27 @@ all_escapes : escapes_below 128 ≡ true
 unfolding escape_byte
 all_escapes = refl
 
-cut_escape : (front bytes back : List ℕ) → is_escape bytes ≡ true → IsUtf8 (front ++ (bytes ++ back)) → IsUtf8 front × IsUtf8 back
-cut_escape front [] back is text = absurd cc
-cut_escape front (b ∷ bytes) back is text =
+cut_escape : (prefix bytes back : List ℕ) → is_escape bytes ≡ true → IsUtf8 (prefix ++ (bytes ++ back)) → IsUtf8 prefix × IsUtf8 back
+cut_escape prefix [] back is text = absurd cc
+cut_escape prefix (b ∷ bytes) back is text =
     let p = and_parts (nat_lt b 128) (are_ascii bytes) is in
-    let parts = cut front (bytes ++ back) b (ltb-true b 128 p.0) text in
+    let parts = cut prefix (bytes ++ back) b (ltb-true b 128 p.0) text in
     (parts.0, after_ascii bytes back p.1 parts.1)
 
 -- bytes above ASCII stand as they are, and so gather before what is still to be read
-by_byte : (front : List ℕ) (x : ℕ) (s : List ℕ) → ((before : List ℕ) → IsUtf8 (before ++ escape s) → IsUtf8 (before ++ s)) → IsUtf8 (front ++ escape (x ∷ s)) → (x < 128) ⊎ (128 ≤ x)
-    → IsUtf8 (front ++ x ∷ s)
-by_byte front x s others text (inl low) =
-    let parts = cut_escape front (escape_byte x) (escape s) (escape_under 128 all_escapes x low) text in
-    IsUtf8-append front (x ∷ s) parts.0 (IsUtf8-append (x ∷ []) s (IsUtf8-are_ascii (x ∷ []) (ap (λ b. b && true) (lt-ltb x 128 low))) (others [] parts.1))
-by_byte front x s others text (inr high) =
+by_byte : (prefix : List ℕ) (x : ℕ) (s : List ℕ) → ((before : List ℕ) → IsUtf8 (before ++ escape s) → IsUtf8 (before ++ s)) → IsUtf8 (prefix ++ escape (x ∷ s)) → (x < 128) ⊎ (128 ≤ x)
+    → IsUtf8 (prefix ++ x ∷ s)
+by_byte prefix x s others text (inl low) =
+    let parts = cut_escape prefix (escape_byte x) (escape s) (escape_under 128 all_escapes x low) text in
+    IsUtf8-append prefix (x ∷ s) parts.0 (IsUtf8-append (x ∷ []) s (IsUtf8-are_ascii (x ∷ []) (ap (λ b. b && true) (lt-ltb x 128 low))) (others [] parts.1))
+by_byte prefix x s others text (inr high) =
     let plain : escape_byte x ≡ x ∷ [] = escape_byte_plain x (λ e. omega arith) (λ e. omega arith) (omega arith) in
-    subst IsUtf8 (append_assoc front (x ∷ []) s) (others (front ++ x ∷ [])
-    (subst IsUtf8 (ap (λ bytes. front ++ (bytes ++ escape s)) plain ∙ sym (append_assoc front (x ∷ []) (escape s))) text))
+    subst IsUtf8 (append_assoc prefix (x ∷ []) s) (others (prefix ++ x ∷ [])
+    (subst IsUtf8 (ap (λ bytes. prefix ++ (bytes ++ escape s)) plain ∙ sym (append_assoc prefix (x ∷ []) (escape s))) text))
 
-unescaped : (front s : List ℕ) → IsUtf8 (front ++ escape s) → IsUtf8 (front ++ s)
-unescaped front [] text = text
-unescaped front (x ∷ s) text = by_byte front x s (λ before t. unescaped before s t) text (cases_lt x 128)
+unescaped : (prefix s : List ℕ) → IsUtf8 (prefix ++ escape s) → IsUtf8 (prefix ++ s)
+unescaped prefix [] text = text
+unescaped prefix (x ∷ s) text = by_byte prefix x s (λ before t. unescaped before s t) text (cases_lt x 128)
 
 unquoted : (s : List ℕ) → IsUtf8 (quoted s) → IsUtf8 s
 unquoted s text = unescaped [] s (cut (escape s) [] 34 (omega arith) (after_byte 34 (escape s ++ 34 ∷ []) (omega arith) text)).0
@@ -154,7 +154,7 @@ before_members xs no_members text = ascii_before xs [] 125 (omega arith) refl te
 before_members xs (member k d ms) text = ascii_before xs (quoted k ++ 58 ∷ (compact_text d ++ members_text true ms)) 44 (omega arith) refl text
 
 mutual
-  pub has_texts : (d : Data) → IsSpelled d → IsUtf8 (compact_text d) → HasTexts d
+  pub has_texts : (d : Data) → IsEncodable d → IsUtf8 (compact_text d) → HasTexts d
   has_texts null s text = tt
   has_texts (boolean b) s text = tt
   has_texts (number n) s text = s
@@ -162,13 +162,13 @@ mutual
   has_texts (array ds) s text = items_have_texts false ds s (after_byte 91 (items_text false ds) (omega arith) text)
   has_texts (object ms) s text = members_have_texts false ms s.1 (after_byte 123 (members_text false ms) (omega arith) text)
 
-  items_have_texts : (b : Bool) (ds : Items) → AreSpelled ds → IsUtf8 (items_text b ds) → ItemsHaveTexts ds
+  items_have_texts : (b : Bool) (ds : Items) → AreEncodable ds → IsUtf8 (items_text b ds) → ItemsHaveTexts ds
   items_have_texts b no_items s text = tt
   items_have_texts b (item d ds) s text =
       let parts = before_items (compact_text d) ds (after_comma b (compact_text d ++ items_text true ds) text) in
       (has_texts d s.0 parts.0, items_have_texts true ds s.1 parts.1)
 
-  members_have_texts : (b : Bool) (ms : Members) → MembersAreSpelled ms → IsUtf8 (members_text b ms) → MembersHaveTexts ms
+  members_have_texts : (b : Bool) (ms : Members) → MembersAreEncodable ms → IsUtf8 (members_text b ms) → MembersHaveTexts ms
   members_have_texts b no_members s text = tt
   members_have_texts b (member k d ms) s text =
       let value = compact_text d ++ members_text true ms in

@@ -20,8 +20,8 @@ use Rattle.serde_json.specs.Read.{read, of_json, max_depth}
 use Rattle.serde_json.specs.Written.{number_text, outline, items_outline, members_outline, has_float, items_have_float, members_have_float, compact_text}
 use Rattle.serde_json.proofs.OnLiterals.{serde_json_on_literals}
 use Rattle.serde_json.proofs.Texts.{print-outline}
-use Rattle.fieldpath.specs.Spelled.{IsSpelledNumber, IsSpelled, AreSpelled, MembersAreSpelled}
-use Rattle.fieldpath.proofs.Spelled.{compact-read}
+use Rattle.fieldpath.specs.Encodable.{IsEncodableNumber, IsEncodable, AreEncodable, MembersAreEncodable}
+use Rattle.fieldpath.proofs.Encodable.{compact-read}
 use Rattle.decoder.specs.Members.{value_in}
 use Rattle.decoder.proofs.Texts.{value_read}
 use Rattle.watchline.specs.declared.event.EventType.{EventType}
@@ -31,14 +31,14 @@ use Rattle.line_laws.specs.Shown.{IsShown, line_value, shown}
 
 -- ---- a value and its outline
 
-number_is : (n : Num) → IsSpelledNumber n → is_float n ≡ false → IsNumber (number_text n)
+number_is : (n : Num) → IsEncodableNumber n → is_float n ≡ false → IsNumber (number_text n)
 number_is (unsigned n) fits h = IsNumber-decimal n fits
 number_is (negative (pos n)) fits h = absurd fits
 number_is (negative (negsuc n)) fits h = IsNumber-signed_decimal (negsuc n) fits
 number_is (float x) fits h = absurd (true≢false h)
 
 mutual
-  has_numbers : (d : Data) → IsSpelled d → has_float d ≡ false → HasNumbers (outline d)
+  has_numbers : (d : Data) → IsEncodable d → has_float d ≡ false → HasNumbers (outline d)
   has_numbers null s h = tt
   has_numbers (boolean b) s h = tt
   has_numbers (number n) s h = number_is n s h
@@ -46,11 +46,11 @@ mutual
   has_numbers (array ds) s h = items_numbers ds s h
   has_numbers (object ms) s h = members_numbers ms s.1 h
 
-  items_numbers : (ds : Items) → AreSpelled ds → items_have_float ds ≡ false → ItemsHaveNumbers (items_outline ds)
+  items_numbers : (ds : Items) → AreEncodable ds → items_have_float ds ≡ false → ItemsHaveNumbers (items_outline ds)
   items_numbers no_items s h = tt
   items_numbers (item d ds) s h = let p = or_parts (has_float d) _ h in (has_numbers d s.0 p.0, items_numbers ds s.1 p.1)
 
-  members_numbers : (ms : Members) → MembersAreSpelled ms → members_have_float ms ≡ false → MembersHaveNumbers (members_outline ms)
+  members_numbers : (ms : Members) → MembersAreEncodable ms → members_have_float ms ≡ false → MembersHaveNumbers (members_outline ms)
   members_numbers no_members s h = tt
   members_numbers (member k d ms) s h = let p = or_parts (has_float d) _ h in (has_numbers d s.0 p.0, members_numbers ms s.1 p.1)
 
@@ -97,13 +97,13 @@ shown_is event.Error d = refl
 
 module _ (what : EventType) (d : Data) (fits : IsShown d) where
   numbers : HasNumbers (outline d)
-  numbers = has_numbers d fits.spelled fits.whole
+  numbers = has_numbers d fits.encodable fits.whole
 
   json_back : of_json (outline d) ≡ Some d
   json_back =
       let room : depth d < max_depth = fits.shallow in
       let shallow : depth d ≤ max_depth = omega (arith, room) in
-      sym (outline_read d numbers shallow) ∙ compact-read d fits.spelled fits.whole shallow
+      sym (outline_read d numbers shallow) ∙ compact-read d fits.encodable fits.whole shallow
 
   one_deeper : depth (as_written what d) ≤ max_depth
   one_deeper = let room : depth d < max_depth = fits.shallow in omega (arith, room)

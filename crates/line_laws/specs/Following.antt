@@ -1,7 +1,7 @@
 -- A watch that is followed over a history that goes on: turns, bookmarks, writes, compactions.
 use Rattle.std.specs.Prelude.{◌≡◌, ◌⊎◌, ℕ, suc, ◌≤◌, List, [], ◌∷◌, ◌++◌, Option}
 use Rattle.history.specs.History.{History, Key, compacted_to, last_revision, written}
-use Rattle.watchline.specs.Watches.{Cursor, bookmarked, from_history, none_left, pumped}
+use Rattle.watchline.specs.Watches.{Cursor, bookmarked, from_history, no_initial_left, pumped}
 
 pub data Event : Type 0 where
   turn : ℕ → Event  -- with room for so many lines
@@ -18,9 +18,9 @@ pub record Followed : Type 0 where
 abbrev pub opened_at : History → Cursor → Followed
 opened_at h w = record { history = h; cursor = w; lines = [] }
 
--- objects are left to be told only at a revision that is there; without them it may wait for a revision that is still to come
+-- objects are left to be sent only at a revision that is there; without them it may wait for a revision that is still to come
 abbrev pub MayBegin : History → Cursor → Type 0
-MayBegin h w = (w.left ≡ none_left) ⊎ (w.position ≤ h.current)
+MayBegin h w = (w.left ≡ no_initial_left) ⊎ (w.position ≤ h.current)
 
 abbrev pub after : Event → Followed → Followed
 after (turn room) f = record f { cursor = (pumped (from_history f.history) room f.cursor).next; lines = f.lines ++ (pumped (from_history f.history) room f.cursor).lines }

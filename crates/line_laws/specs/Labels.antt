@@ -4,8 +4,8 @@ use Rattle.std.specs.FinMap as fin
 use Rattle.selector.specs.Labels.{value_at}
 use Rattle.fieldpath.specs.Elements.{name_text}
 use Rattle.fieldpath.specs.Paths.{PathTexts}
-use Rattle.pathmap.specs.Contents.{Content, Standing}
-use Rattle.pathmap.specs.Contents as standing
+use Rattle.pathmap.specs.Contents.{Content, LeafValue}
+use Rattle.pathmap.specs.Contents as leaf_value
 use Rattle.schema.specs.ObjectShape.{IsObjectShape}
 use Rattle.schema.specs.Shape.{Shape}
 use Rattle.lists.specs.Labels.{labels_of}
@@ -17,16 +17,16 @@ use Rattle.objects.specs.ReadBack.{IsObjectText}
 abbrev pub label_path : List ℕ → PathTexts
 label_path key = name_text (codes "metadata") ∷ name_text (codes "labels") ∷ name_text key ∷ []
 
-abbrev pub text_standing : Standing → Option (List ℕ)
-text_standing (standing.text s) = Some s
-text_standing (standing.whole n) = None
-text_standing (standing.truth b) = None
-text_standing (standing.plain s) = None
-text_standing standing.mark = None
+abbrev pub text_leaf_value : LeafValue → Option (List ℕ)
+text_leaf_value (leaf_value.text s) = Some s
+text_leaf_value (leaf_value.whole n) = None
+text_leaf_value (leaf_value.truth b) = None
+text_leaf_value (leaf_value.plain s) = None
+text_leaf_value leaf_value.mark = None
 
 -- the value of a label
 abbrev pub label_in : Content → List ℕ → Option (List ℕ)
-label_in c key = option_and_then text_standing (fin.get c (label_path key))
+label_in c key = option_and_then text_leaf_value (fin.get c (label_path key))
 
 -- by each key, an object's text gives the label that its content has
 abbrev pub LabelsAreOfContents : Type 0

@@ -4,7 +4,7 @@ use Rattle.std.specs.declared.result.Result.TheVariants.{Ok}
 use Rattle.serde_json.specs.Data.{Data, string, object, no_members, put, depth}
 use Rattle.serde_json.specs.Read.{max_depth}
 use Rattle.serde_json.specs.Written.{has_float}
-use Rattle.fieldpath.specs.Spelled.{IsSpelled}
+use Rattle.fieldpath.specs.Encodable.{IsEncodable}
 use Rattle.history.specs.Seen.{SeenKind, Added, Modified, Deleted}
 use Rattle.indexer.specs.Objects.{Stored}
 use Rattle.schema.specs.Shape.{Shape}
@@ -30,7 +30,7 @@ is_feed b = b == 10
 
 -- a value with a compact text that a reader follows, also where it stands in a line, one deeper
 pub record IsShown (d : Data) : Type 0 where
-  pub spelled : IsSpelled d
+  pub encodable : IsEncodable d
   pub whole : has_float d ≡ false
   pub shallow : depth d < max_depth
 

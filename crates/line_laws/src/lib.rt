@@ -1,5 +1,5 @@
-//! Laws of the lines of watches and of the pages of lists: what the server prints, the client reads, what a watch tells
-//! is all there was to tell, and what selects an object is what it holds. Each function does nothing; what it promises
+//! Laws of the lines of watches and of the pages of lists: what the server prints, the client reads, what a watch sends
+//! is all there was to send, and what selects an object is what it holds. Each function does nothing; what it promises
 //! is the law. The bytes around lines and pages are `wire_laws`'.
 //!
 //! Stands on `watchline` for the lines, `lists` for the pages and for the labels that an object's text gives, `decoder`
@@ -13,7 +13,7 @@ mod lines;
 mod page_laws;
 
 pub use deletions::deletions_show_the_object;
-pub use following::{bookmarks_come_behind, watches_tell_all};
+pub use following::{bookmarks_come_behind, watches_send_all};
 pub use label_laws::{labels_are_of_contents, readers_agree};
 pub use lines::{lines_are_lines, lines_are_read, objects_are_read};
 pub use page_laws::pages_are_read;

@@ -4,11 +4,11 @@ ghost use Rattle.std.specs.Prelude.{◌≡◌, ◌≤◌, ℕ, List, [], ◌∷�
 ghost use Rattle.std.specs.List.{list_any};
 ghost use Rattle.serde_json.specs.Data.{Data};
 ghost use Rattle.serde_json.specs.Written.{compact_text};
-ghost use Rattle.fieldpath.specs.Spelled.{IsSpelled};
+ghost use Rattle.fieldpath.specs.Encodable.{IsEncodable};
 ghost use Rattle.schema.specs.ObjectShape.{IsObjectShape};
 ghost use Rattle.schema.specs.Shape.{Shape};
 ghost use Rattle.objects.specs.State.{State};
-ghost use Rattle.objects.specs.Placed.{IsPlacedState};
+ghost use Rattle.objects.specs.WellTyped.{IsWellTypedState};
 ghost use Rattle.objects.specs.ObjectText.{Identity, object_value};
 ghost use Rattle.objects.specs.ReadBack.{IsObjectText, max_version};
 ghost use Rattle.history.specs.Seen.{SeenChange};
@@ -26,10 +26,10 @@ ghost use Rattle.line_laws.specs.Shown.{HasPlace, IsShown, IsStored, is_feed, li
 /// A line has one line feed, its last byte, whatever value stands in it.
 pub fn lines_are_lines()
     ensures ends { (what : EventType) (text : List ℕ) → line what text ≡ shown what text ++ 10 ∷ [] }
-    ensures one { (what : EventType) (d : Data) → IsSpelled d → list_any is_feed (shown what (compact_text d)) ≡ false }
+    ensures one { (what : EventType) (d : Data) → IsEncodable d → list_any is_feed (shown what (compact_text d)) ≡ false }
 {}
 
-/// A line is JSON, and a client reads it as what it tells: the object that the change's text says, put or deleted, at
+/// A line is JSON, and a client reads it as what it says: the object that the change's text says, put or deleted, at
 /// the version that is shown; a bookmark's version; an error. An object nests no deeper than what a line shows may.
 pub fn lines_are_read()
     ensures json { (what : EventType) (d : Data) → IsShown d → IsUtf8 (compact_text d) → value_in (shown what (compact_text d)) ≡ Ok (line_value what d) }
@@ -47,6 +47,6 @@ pub fn lines_are_read()
 /// An object's value is read, from a line as from a list, as that object: its key, its version, its labels and its
 /// text, where a client asks for its type and its namespace.
 pub fn objects_are_read()
-    ensures { (wanted : Wanted) (s : Shape) (of : Identity) (v : ℕ) (state : State) → IsObjectShape s → IsPlacedState s state → v ≤ max_version → HasPlace wanted of
+    ensures { (wanted : Wanted) (s : Shape) (of : Identity) (v : ℕ) (state : State) → IsObjectShape s → IsWellTypedState s state → v ≤ max_version → HasPlace wanted of
         → (o : Stored) × (object_of wanted (object_value s of v state) ≡ Ok o) × IsStored s of v state o }
 {}

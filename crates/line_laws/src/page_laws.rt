@@ -13,12 +13,12 @@ ghost use Rattle.line_laws.specs.Listed.{AreKept, AreWanted, IsReadAsPage, IsWan
 
 /// A client that asks for a collection reads the text of its page (`pages`) as exactly the list's revision, the
 /// `continue` token, where there is one, and for each object of the page, in order, the object that its text says:
-/// under its key, at its version, with its text. So it reads each page of objects that stand (`standing`), whatever
+/// under its key, at its version, with its text. So it reads each page of objects that stand (`leaf_value`), whatever
 /// else stands beside them, and so each answer to a list (`answers`) as the page that was asked for.
 pub fn pages_are_read()
     ensures pages { (wanted : Wanted) (of : Collection) (revision : ℕ) (page : SeenPage) → IsWanted wanted of → AreWanted wanted of page.found → revision ≤ max_version
         → IsUtf8 (list_text of revision page) → IsReadAsPage wanted (list_text of revision page) revision page }
-    ensures standing { (wanted : Wanted) (of : Collection) (values : Values) (revision : ℕ) (s : Objects) → IsWanted wanted of → AreKept of s → revision ≤ max_version
+    ensures leaf_value { (wanted : Wanted) (of : Collection) (values : Values) (revision : ℕ) (s : Objects) → IsWanted wanted of → AreKept of s → revision ≤ max_version
         → IsUtf8 (list_text of revision (page_of of values s)) → IsReadAsPage wanted (list_text of revision (page_of of values s)) revision (page_of of values s) }
     ensures answers { (wanted : Wanted) (of : Collection) (values : Values) (current compacted : ℕ) (at : ℕ → Objects) (text : List ℕ) → IsWanted wanted of
         → ((r : ℕ) → compacted ≤ r → r ≤ current → AreKept of (at r)) → compacted ≤ current → current ≤ max_version → list_of of values current compacted at ≡ Ok text → IsUtf8 text

@@ -9,9 +9,9 @@ use Rattle.std.specs.FinMap.{is_sorted}
 use Rattle.std.specs.declared.result.Result.TheVariants.{Ok}
 use Rattle.history.specs.History.{Key, Object, Objects, key_cmp}
 use Rattle.history.specs.Page.{is_in_namespace, is_within}
-use Rattle.history.specs.Seen.{IsLimit, SeenPage, left_after, limited, seen_page, selected, IsFront, last_key, past}
+use Rattle.history.specs.Seen.{IsLimit, SeenPage, left_after, limited, seen_page, selected, IsPrefix, last_key, past}
 use Rattle.history.proofs.Leading as leading
-use Rattle.history.proofs.Paging.{past-front}
+use Rattle.history.proofs.Paging.{past-prefix}
 use Rattle.history.proofs.Selecting.{entries-selected, is_sorted-filter}
 use Rattle.selector.specs.Requirement.{Requirement, selects}
 use Rattle.params.specs.Values.{Token, Values}
@@ -19,7 +19,7 @@ use Rattle.lists.specs.Body.{Collection, list_text}
 use Rattle.lists.specs.Labels.{labels_of, selection_of}
 use Rattle.lists.specs.Lists.{key_after, list_of, max_page, page_limit, page_of, text_at}
 use Rattle.lists.specs.Revision.{exactly, revision_by, wanted_by}
-use Rattle.lists.specs.Tokens.{token_after, whole_list}
+use Rattle.lists.specs.TokenLaws.{token_after, whole_list}
 
 abbrev Entries : Type 0
 Entries = List (Key × Object)
@@ -120,18 +120,18 @@ begins_after of before values revision s k is token =
 
 -- ---- pages, joined
 
-pub first : (of : Collection) (values : Values) (s : Objects) → values.token ≡ None → IsFront (whole_list of values.selector s) (page_of of values s).found (page_of of values s).next
+pub first : (of : Collection) (values : Values) (s : Objects) → values.token ≡ None → IsPrefix (whole_list of values.selector s) (page_of of values s).found (page_of of values s).next
 first of values s none =
-    subst (λ (page : SeenPage). IsFront (whole_list of values.selector s) page.found page.next) (sym (ap (page_by of values s) none))
+    subst (λ (page : SeenPage). IsPrefix (whole_list of values.selector s) page.found page.next) (sym (ap (page_by of values s) none))
     (leading.first (selection_of of.kind of.namespace values.selector) (page_limit values.limit) s (has_room values.limit))
 
-pub next : (of : Collection) (before values : Values) (revision : ℕ) (s : Objects) (front : List (Key × Object)) (k : Key) → (page_of of before s).next ≡ Some k → values.token ≡ Some (token_after revision k)
-    → IsFront (whole_list of values.selector s) front (Some k) → IsFront (whole_list of values.selector s) (front ++ (page_of of values s).found) (page_of of values s).next
-next of before values revision s front k is token so_far =
-    subst (λ (page : SeenPage). IsFront (whole_list of values.selector s) (front ++ page.found) page.next) (sym (begins_after of before values revision s k is token))
-    (leading.next (selection_of of.kind of.namespace values.selector) (page_limit values.limit) s front k (has_room values.limit) so_far)
+pub next : (of : Collection) (before values : Values) (revision : ℕ) (s : Objects) (prefix : List (Key × Object)) (k : Key) → (page_of of before s).next ≡ Some k → values.token ≡ Some (token_after revision k)
+    → IsPrefix (whole_list of values.selector s) prefix (Some k) → IsPrefix (whole_list of values.selector s) (prefix ++ (page_of of values s).found) (page_of of values s).next
+next of before values revision s prefix k is token so_far =
+    subst (λ (page : SeenPage). IsPrefix (whole_list of values.selector s) (prefix ++ page.found) page.next) (sym (begins_after of before values revision s k is token))
+    (leading.next (selection_of of.kind of.namespace values.selector) (page_limit values.limit) s prefix k (has_room values.limit) so_far)
 
-pub whole : (of : Collection) (requirements : List Requirement) (s : Objects) (all : List (Key × Object)) → IsFront (whole_list of requirements s) all None → all ≡ whole_list of requirements s
+pub whole : (of : Collection) (requirements : List Requirement) (s : Objects) (all : List (Key × Object)) → IsPrefix (whole_list of requirements s) all None → all ≡ whole_list of requirements s
 whole of requirements s all is = leading.whole (selection_of of.kind of.namespace requirements) s all is
 
 pub at_once : (of : Collection) (values : Values) (s : Objects) → values.token ≡ None → values.limit ≡ 0 → (page_of of values s).found ≡ whole_list of values.selector s
@@ -168,7 +168,7 @@ some_past (Some n) es k sorted is = go (nat_lt n (length es)) refl is
     go false t h = absurd cc
     go true t h =
         let cut : take n es ++ drop n es ≡ es = take-append-drop n es in
-        let rest : past k (take n es ++ drop n es) ≡ drop n es = past-front k (take n es) (drop n es) (subst (λ xs. T (is_sorted key_cmp xs)) (sym cut) sorted) h in
+        let rest : past k (take n es ++ drop n es) ≡ drop n es = past-prefix k (take n es) (drop n es) (subst (λ xs. T (is_sorted key_cmp xs)) (sym cut) sorted) h in
         let counted : length (past k es) ≡ length es - n = ap (λ xs. length (past k xs)) (sym cut) ∙ ap length rest ∙ length-drop n es in
         let more : n < length es = ltb-true n (length es) t in
         omega (arith, counted, more)

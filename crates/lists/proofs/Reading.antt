@@ -65,15 +65,15 @@ module _ (kind : ℕ) (namespace : Option (List ℕ)) (s : Objects) (start : Sta
     nothing_here : last_key rows ≡ None → Unit {0} → max ≤ 0
     nothing_here h u = let none : length rows ≡ 0 = ap length (none_last rows h) in omega arith
 
-    pub leads_on : listed kind namespace start s ≡ rows ++ rows_left kind namespace s next
-    leads_on = go (last_key rows) refl
+    pub reaches_on : listed kind namespace start s ≡ rows ++ rows_left kind namespace s next
+    reaches_on = go (last_key rows) refl
       where
         go : (o : Option Key) → last_key rows ≡ o → listed kind namespace start s ≡ rows ++ rows_left kind namespace s next
         go None h = absurd (let no : max ≤ 0 = nothing_here h tt in omega arith)
         go (Some k) h = goes_on k h ∙ ap (λ o. rows ++ rows_left kind namespace s o) (sym (after ∙ ap (option_map place_of) h))
 
-    pub leads_lower : to_read kind namespace s next < to_read kind namespace s (Some start)
-    leads_lower = go (last_key rows) refl
+    pub reaches_lower : to_read kind namespace s next < to_read kind namespace s (Some start)
+    reaches_lower = go (last_key rows) refl
       where
         go : (o : Option Key) → last_key rows ≡ o → to_read kind namespace s next < to_read kind namespace s (Some start)
         go None h = absurd (let no : max ≤ 0 = nothing_here h tt in omega arith)

@@ -32,7 +32,7 @@ use Rattle.params.specs.Texts.{IsToken, is_dot, token_of}
 use Rattle.params.specs.Values.{Token, Values, no_values}
 use Rattle.params.proofs.Tokens.{reads_back}
 use Rattle.lists.specs.Body.{continued_at}
-use Rattle.lists.specs.Tokens.{CanBeListed, IsText, IsTextPair, labels_pair, next_pairs, token_after}
+use Rattle.lists.specs.TokenLaws.{CanBeListed, IsText, IsTextPair, labels_pair, next_pairs, token_after}
 
 -- ---- texts of ASCII
 
@@ -40,8 +40,8 @@ abbrev is_ascii : ℕ → Bool
 is_ascii b = nat_lt b 128
 
 weaker : (p q : ℕ → Bool) → ((b : ℕ) → p b ≡ true → q b ≡ true) → (bs : List ℕ) → list_all p bs ≡ true → list_all q bs ≡ true
-weaker p q leads [] h = refl
-weaker p q leads (b ∷ bs) h = let parts = and_parts (p b) (list_all p bs) h in and_from (q b) (list_all q bs) (leads b parts.0) (weaker p q leads bs parts.1)
+weaker p q reaches [] h = refl
+weaker p q reaches (b ∷ bs) h = let parts = and_parts (p b) (list_all p bs) h in and_from (q b) (list_all q bs) (reaches b parts.0) (weaker p q reaches bs parts.1)
 
 text_of_ascii : (bs : List ℕ) → list_all is_ascii bs ≡ true → IsText bs
 text_of_ascii bs h =
@@ -137,9 +137,9 @@ some_in_number n high = decimal_nonempty n (omega (arith, high))
 number_is_ascii : (n : ℕ) → n ≤ last_revision → list_all is_ascii (decimal n) ≡ true
 number_is_ascii n high = weaker is_ascii_digit is_ascii digit_is_ascii (decimal n) (digits_decimal digits n (omega (arith, high)))
 
-some_before : (front back : List ℕ) → 0 < length front → 0 < length (front ++ back)
+some_before : (prefix back : List ℕ) → 0 < length prefix → 0 < length (prefix ++ back)
 some_before [] back h = absurd (omega arith)
-some_before (b ∷ front) back h = omega arith
+some_before (b ∷ prefix) back h = omega arith
 
 all_of_both : (xs ys : List ℕ) → list_all is_ascii xs ≡ true → list_all is_ascii ys ≡ true → list_all is_ascii (xs ++ ys) ≡ true
 all_of_both xs ys h g = list_all-append is_ascii xs ys ∙ and_from (list_all is_ascii xs) (list_all is_ascii ys) h g

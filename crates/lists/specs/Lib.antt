@@ -4,5 +4,5 @@ pub mod Body
 pub mod Lists
 pub mod Rows
 pub mod Views
-pub mod Tokens
-pub mod RecentLabels
+pub mod TokenLaws
+pub mod LabelCache

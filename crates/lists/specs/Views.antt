@@ -32,10 +32,10 @@ abbrev pub page_seen : ThePage → SeenPage
 page_seen p = record { found = map entry_of p.found.items; next = if p.has_more then last_key (map entry_of p.found.items) else None }
 
 -- what was answered, seen by view, is the definition's answer, unless memory ran out or the store failed
-abbrev pub Fails : {B : Type 0} → ListFault → Result B Refusal → Type 0
-Fails (fault.Refused r) answer = answer ≡ Err r
-Fails (fault.Failed f) answer = Unit {0}
+abbrev pub FailsWith : {B : Type 0} → ListFault → Result B Refusal → Type 0
+FailsWith (fault.Refused r) answer = answer ≡ Err r
+FailsWith (fault.Failed f) answer = Unit {0}
 
-abbrev pub Gives : {A B : Type 0} → (A → B) → Result A ListFault → Result B Refusal → Type 0
-Gives view (Ok x) answer = answer ≡ Ok (view x)
-Gives view (Err e) answer = Fails e answer
+abbrev pub Returns : {A B : Type 0} → (A → B) → Result A ListFault → Result B Refusal → Type 0
+Returns view (Ok x) answer = answer ≡ Ok (view x)
+Returns view (Err e) answer = FailsWith e answer

@@ -12,11 +12,11 @@
 
 mod collection;
 mod fault;
+mod label_cache;
 mod labels;
 mod laws;
 mod listing;
 mod page;
-mod recent_labels;
 mod refusal;
 mod revision;
 mod rows;
@@ -25,10 +25,10 @@ mod token_laws;
 
 pub use collection::{Collection, Selected};
 pub use fault::ListFault;
+pub use label_cache::LabelCache;
 pub use laws::lists_are_json;
 pub use listing::list;
 pub use page::{Page, next_start, selected_page};
-pub use recent_labels::RecentLabels;
 pub use refusal::Refusal;
 pub use rows::Start;
 pub use token_laws::{pages_go_on, tokens_are_read};

@@ -3,7 +3,7 @@ ghost use Rattle.std.specs.Prelude.{◌≡◌, string_bytes};
 ghost use Rattle.history.specs.View.{state_in};
 ghost use Rattle.params.specs.Views.{values_of};
 ghost use Rattle.lists.specs.Lists.{list_of};
-ghost use Rattle.lists.specs.Views.{Gives, collection_of};
+ghost use Rattle.lists.specs.Views.{Returns, collection_of};
 
 use crate::collection::Collection;
 use crate::fault::ListFault;
@@ -21,7 +21,7 @@ pub fn list(
     of: Collection<'_>,
     params: &Params,
 ) -> Result<String, ListFault>
-    ensures listed { Gives string_bytes result (list_of (collection_of of.entry) (values_of params.now) store.old.current store.old.compacted (state_in store.old)) }
+    ensures listed { Returns string_bytes result (list_of (collection_of of.entry) (values_of params.now) store.old.current store.old.compacted (state_in store.old)) }
     ensures same { store.new ≡ store.old }
 {
     let revision = revision_of(store.current(), store.compacted(), params)?;

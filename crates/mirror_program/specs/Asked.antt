@@ -6,7 +6,7 @@ use Rattle.decoder.specs.declared.wanted.Source as sources
 use Rattle.reflector.specs.Faults.{fault_in}
 use Rattle.reflector.specs.Requests.{Settings}
 use Rattle.programs.specs.Resources.{Resource}
-use Rattle.programs.specs.Seen.{resource_of}
+use Rattle.programs.specs.Views.{resource_of}
 use Rattle.mirror_program.specs.declared.arguments.MirrorOptions.{MirrorOptions}
 
 -- which objects, and how

@@ -6,7 +6,7 @@ ghost use Rattle.clap.specs.Words.{Text, first_of, matches_of};
 ghost use Rattle.programs.specs.Numbers.{IsCount, IsNumber, IsNumberOr};
 ghost use Rattle.mirror_program.specs.MirrorCommand.{IsMirrorCommand, ssa_mirror};
 ghost use Rattle.programs.specs.Resources.{resource_in};
-ghost use Rattle.programs.specs.Seen.{resource_of};
+ghost use Rattle.programs.specs.Views.{resource_of};
 
 use crate::fault::ProgramFault;
 use clap::{ArgMatches, Command};

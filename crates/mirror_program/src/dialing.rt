@@ -1,7 +1,7 @@
 //! Connections to a server on loopback.
 
 use mirroring::Dial;
-use reflector::Trouble;
+use reflector::RelistReason;
 use std::io::Write;
 use std::net::{Ipv4Addr, Net, SocketAddr, TcpStream};
 use std::rt::Clock;
@@ -52,9 +52,9 @@ impl<'a, R: Net + Clock + Eprint + AllocGlobal> Dial for Loopback<'a, R> {
         Ok(stream)
     }
 
-    fn given_up(&mut self, trouble: Trouble) {
+    fn given_up(&mut self, relist_reason: RelistReason) {
         // Where the standard error takes nothing, the mirror goes on all the same.
-        let _ = eprintln!(self.rt; "reply given up: {trouble}");
+        let _ = eprintln!(self.rt; "reply given up: {relist_reason}");
         thread::sleep(self.rt, Duration::from_millis(PAUSE));
         self.is_second = false;
     }

@@ -6,7 +6,7 @@ ghost use Rattle.api_types.specs.Served.{types_view};
 ghost use Rattle.reflector.specs.Requests.{Settings};
 ghost use Rattle.mirroring.specs.Turns.{Answers};
 ghost use Rattle.mirror_program.specs.Asked.{asked_of, settings_of};
-ghost use Rattle.mirror_program.specs.Printing.{Prints, PrintsFewer, PrintsFront};
+ghost use Rattle.mirror_program.specs.Printing.{Prints, PrintsFewer, PrintsPrefix};
 ghost use Rattle.mirror_program.specs.Statuses.{status_of};
 
 use crate::arguments::MirrorOptions;
@@ -25,9 +25,9 @@ pub fn print_changes<D: Dial, W: Write>(
     dialer: &mut D,
     out: &mut W,
 ) -> Result<(), ProgramFault>
-    ensures told { OnOk result ((s : Settings) × (settings_of (types_view types.now) (asked_of options.now) ≡ Some s)
+    ensures emitted { OnOk result ((s : Settings) × (settings_of (types_view types.now) (asked_of options.now) ≡ Some s)
         × Prints (Answers (λ a q r b. D.dials a q r b) (λ r. D.Reader.remaining r)) (λ a t b. D.learns a t b) s options.now.turns dialer.old dialer.new (W.contents out.old) (W.contents out.new)) }
-    ensures front { OnErr result (PrintsFront (Answers (λ a q r b. D.dials a q r b) (λ r. D.Reader.remaining r)) (λ a t b. D.learns a t b) (settings_of (types_view types.now) (asked_of options.now)) options.now.turns dialer.old (W.contents out.old) (W.contents out.new)) }
+    ensures prefix { OnErr result (PrintsPrefix (Answers (λ a q r b. D.dials a q r b) (λ r. D.Reader.remaining r)) (λ a t b. D.learns a t b) (settings_of (types_view types.now) (asked_of options.now)) options.now.turns dialer.old (W.contents out.old) (W.contents out.new)) }
     ensures refused { IfErr result (λ f. status_of f ≡ 2 → (settings_of (types_view types.now) (asked_of options.now) ≡ None) × (out.new ≡ out.old)) }
     ensures undialled { IfErr result (λ f. status_of f ≡ 6 → (s : Settings) × (settings_of (types_view types.now) (asked_of options.now) ≡ Some s)
         × PrintsFewer (Answers (λ a q r b. D.dials a q r b) (λ r. D.Reader.remaining r)) (λ a t b. D.learns a t b) s options.now.turns dialer.old (W.contents out.old) (W.contents out.new)) }

@@ -5,9 +5,9 @@ ghost use Rattle.api_types.specs.Served.{types_view};
 ghost use Rattle.api_types.specs.TypesFile.{ServedShape};
 ghost use Rattle.selector.specs.Grammar.{parse_selector};
 ghost use Rattle.reflector.specs.Client.{fresh};
-ghost use Rattle.reflector.specs.Informer.{Runs, settings_in};
+ghost use Rattle.reflector.specs.InformerViews.{InformerRepresents, settings_in};
 ghost use Rattle.mirror_program.specs.Asked.{IsSourceOf, asked_of, settings_of, type_of};
-ghost use Rattle.programs.specs.Seen.{resource_of};
+ghost use Rattle.programs.specs.Views.{resource_of};
 ghost use Rattle.mirror_program.specs.Statuses.{status_of};
 ghost use Rattle.mirror_program.specs.declared.fault.ProgramFault.TheVariants.{Run};
 ghost use Rattle.programs.specs.declared.run_fault.RunFault.TheVariants.{Memory};
@@ -97,7 +97,7 @@ pub(crate) fn informer_of(
     options: &MirrorOptions<'_>,
 ) -> Result<Informer<NoIndex>, ProgramFault>
     ensures settings { IfOk result (λ i. settings_of (types_view types.now) (asked_of options.now) ≡ Some (settings_in i)) }
-    ensures fresh { IfOk result (λ i. Runs (λ b s. []) i fresh [] []) }
+    ensures fresh { IfOk result (λ i. InformerRepresents (λ b s. []) i fresh [] []) }
     ensures refused { IfErr result (λ f. (f ≡ Run Memory) ⊎ ((settings_of (types_view types.now) (asked_of options.now) ≡ None) × (status_of f ≡ 2))) }
 {
     let source = source_of(types, options.resource)?;

@@ -6,18 +6,18 @@ use Rattle.std.proofs.KnownBytes.{Appends-nil, Appends-trans, Consumes-nil, Cons
 use Rattle.std.proofs.lemmas.Grind.{flat_map-append}
 use Rattle.indexer.specs.Objects.{Stored}
 use Rattle.wireclient.specs.Reads.{Items, start}
-use Rattle.wireclient.specs.Reply.{Told}
+use Rattle.wireclient.specs.Reply.{ReplyItem}
 use Rattle.decoder.specs.Wanted.{Wanted}
 use Rattle.reflector.specs.Client.{Cache, Client, Notice}
-use Rattle.reflector.specs.Informer.{Runs, trouble_in}
-use Rattle.reflector.specs.Run.{asked, hears_all, taken}
-use Rattle.reflector.specs.Troubles.{trouble_after}
+use Rattle.reflector.specs.InformerViews.{InformerRepresents, relist_reason_in}
+use Rattle.reflector.specs.Run.{asked, receives_all, taken}
+use Rattle.reflector.specs.RelistReasons.{relist_reason_after}
 use Rattle.reflector.specs.declared.informer.Informer.{Informer}
-use Rattle.reflector.proofs.Troubles.{none_while_asking, trouble_then}
-use Rattle.mirroring.specs.Telling.{mirror_text, notice_line, synced_line}
-use Rattle.mirroring.specs.Turns.{WritesFront, first_with, synced_by, text_between}
-use Rattle.mirroring.specs.Pieces.{HeardFront, HeardSoFar, Tells, TellsFront}
-use Rattle.mirroring.proofs.Ahead.{ahead, all_ahead, all_taken, heard_then, trouble_taken}
+use Rattle.reflector.proofs.RelistReasons.{none_while_awaiting_reply, relist_reason_then}
+use Rattle.mirroring.specs.Printing.{mirror_text, notice_line, synced_line}
+use Rattle.mirroring.specs.Turns.{WritesPrefix, first_with, synced_by, text_between}
+use Rattle.mirroring.specs.Pieces.{ReceivedPrefix, ReceivedSoFar, Emits, EmitsPrefix}
+use Rattle.mirroring.proofs.Ahead.{ahead, all_ahead, all_taken, received_then, relist_reason_taken}
 use Rattle.mirroring.proofs.FirstList.{IsBefore, all_before, all_kept}
 
 -- ---- results
@@ -41,14 +41,14 @@ pub error_is : {T E : Type 0} (r : Result T E) (e : E) (P : E → Type 0) → Is
 error_is (Ok x) e P is p = tt
 error_is (Err x) e P is p = subst P (sym is) p
 
--- ---- fronts
+-- ---- prefixes
 
-pub front_none : (a : Option (List ℕ)) (text : List ℕ) → WritesFront a a text
-front_none a text = ([], text, refl, Appends-nil a)
+pub prefix_none : (a : Option (List ℕ)) (text : List ℕ) → WritesPrefix a a text
+prefix_none a text = ([], text, refl, Appends-nil a)
 
-pub front_after : (a b c : Option (List ℕ)) (before more text : List ℕ) → before ++ more ≡ text → Appends a b before → WritesFront b c more → WritesFront a c text
-front_after a b c before more text joins first (told, rest, is, written) =
-    (before ++ told, rest, sym joins ∙ ap (λ (t : List ℕ). before ++ t) is ∙ sym (append_assoc before told rest), Appends-trans a b c before told first written)
+pub prefix_after : (a b c : Option (List ℕ)) (before more text : List ℕ) → before ++ more ≡ text → Appends a b before → WritesPrefix b c more → WritesPrefix a c text
+prefix_after a b c before more text joins first (emitted, rest, is, written) =
+    (before ++ emitted, rest, sym joins ∙ ap (λ (t : List ℕ). before ++ t) is ∙ sym (append_assoc before emitted rest), Appends-trans a b c before emitted first written)
 
 pub written_after : (a b c : Option (List ℕ)) (before more text : List ℕ) → before ++ more ≡ text → Appends a b before → Appends b c more → Appends a c text
 written_after a b c before more text joins first next = subst (Appends a c) joins (Appends-trans a b c before more first next)
@@ -78,8 +78,8 @@ first_still (Some was) None z stays none = let is : false ≡ true = stays refl 
 first_still (Some was) (Some now) z stays none = refl
 
 -- nothing is told of what was only asked
-pub nothing_told : (c : Client) → c.notices ≡ [] → text_between c (asked c) ≡ []
-nothing_told c none = go c.cache
+pub nothing_emitted : (c : Client) → c.notices ≡ [] → text_between c (asked c) ≡ []
+nothing_emitted c none = go c.cache
   where
     go : (o : Option Cache) → mirror_text (synced_by o o) c.notices ≡ []
     go None = ap (mirror_text None) none
@@ -87,18 +87,18 @@ nothing_told c none = go c.cache
 
 -- ---- a part of a reply, and more of it
 
-module _ (wanted : Wanted) (c : Client) (items news : List Told) (none : c.notices ≡ []) where
+module _ (wanted : Wanted) (c : Client) (items response : List ReplyItem) (none : c.notices ≡ []) where
   abbrev now : Client
-  now = hears_all wanted (asked c) items
+  now = receives_all wanted (asked c) items
 
   abbrev later : Client
-  later = hears_all wanted (taken now) news
+  later = receives_all wanted (taken now) response
 
   abbrev whole : Client
-  whole = hears_all wanted (asked c) (items ++ news)
+  whole = receives_all wanted (asked c) (items ++ response)
 
   pub is_ahead : whole ≡ ahead now.notices later
-  is_ahead = heard_then wanted (asked c) items news ∙ ap (λ (d : Client). hears_all wanted d news) (sym (all_taken now)) ∙ all_ahead now.notices wanted (taken now) news
+  is_ahead = received_then wanted (asked c) items response ∙ ap (λ (d : Client). receives_all wanted d response) (sym (all_taken now)) ∙ all_ahead now.notices wanted (taken now) response
 
   before_now : c.cache ≡ None → IsBefore now
   before_now is = all_before wanted (asked c) items (λ _. none, λ _. is)
@@ -121,74 +121,74 @@ module _ (wanted : Wanted) (c : Client) (items news : List Told) (none : c.notic
       go None at = ap (synced_by None) is
       go (Some x) at = refl
 
-  pub texts_join : now.is_asking ≡ true → text_between c now ++ text_between (taken now) later ≡ text_between c whole
+  pub texts_join : now.is_awaiting_reply ≡ true → text_between c now ++ text_between (taken now) later ≡ text_between c whole
   texts_join asks =
       text_after (synced_by c.cache now.cache) now.cache later.cache now.notices later.notices (λ is. (synced_none is, none_before is))
       ∙ ap (λ (f : Option ℕ). mirror_text f (now.notices ++ later.notices)) (first_still c.cache now.cache later.cache stays_now (λ is. (before_now is).1 asks))
       ∙ sym (ap (text_between c) is_ahead)
 
   -- the trouble of all is that of what came last
-  pub troubles_join : now.is_asking ≡ true → trouble_after wanted (taken now) None news ≡ trouble_after wanted (asked c) None (items ++ news)
-  troubles_join asks =
-      trouble_taken wanted now None news ∙ ap (λ t. trouble_after wanted now t news) (sym (none_while_asking wanted (asked c) items asks))
-      ∙ sym (trouble_then wanted (asked c) None items news)
+  pub relist_reasons_join : now.is_awaiting_reply ≡ true → relist_reason_after wanted (taken now) None response ≡ relist_reason_after wanted (asked c) None (items ++ response)
+  relist_reasons_join asks =
+      relist_reason_taken wanted now None response ∙ ap (λ t. relist_reason_after wanted now t response) (sym (none_while_awaiting_reply wanted (asked c) items asks))
+      ∙ sym (relist_reason_then wanted (asked c) None items response)
 
 -- ---- a piece
 
-pub gives_up : {T E : Type 0} (r : Result T E) (wanted : Wanted) (c : Client) (bytes : List ℕ) (items : List Told) (a : Option (List ℕ)) → Items bytes items
-    → OnErr r (TellsFront wanted c bytes items a a)
+pub gives_up : {T E : Type 0} (r : Result T E) (wanted : Wanted) (c : Client) (bytes : List ℕ) (items : List ReplyItem) (a : Option (List ℕ)) → Items bytes items
+    → OnErr r (EmitsPrefix wanted c bytes items a a)
 gives_up r wanted c bytes items a is =
     on_err r _
-    ([], [], subst (λ (bs : List ℕ). Items bs (items ++ [])) (sym (append-nil bytes)) (subst (Items bytes) (sym (append-nil items)) is), front_none a (text_between c c))
+    ([], [], subst (λ (bs : List ℕ). Items bs (items ++ [])) (sym (append-nil bytes)) (subst (Items bytes) (sym (append-nil items)) is), prefix_none a (text_between c c))
 
-pub tells_front : {T E : Type 0} (r : Result T E) (wanted : Wanted) (c : Client) (bytes : List ℕ) (items : List Told) (piece : List ℕ) (news : List Told) (a b : Option (List ℕ)) (text : List ℕ)
-    → Items (bytes ++ piece) (items ++ news) → text ≡ text_between c (hears_all wanted c news) → WritesFront a b text → OnErr r (TellsFront wanted c bytes items a b)
-tells_front r wanted c bytes items piece news a b text is same front = on_err r _ (piece, news, is, subst (WritesFront a b) same front)
+pub emits_prefix : {T E : Type 0} (r : Result T E) (wanted : Wanted) (c : Client) (bytes : List ℕ) (items : List ReplyItem) (piece : List ℕ) (response : List ReplyItem) (a b : Option (List ℕ)) (text : List ℕ)
+    → Items (bytes ++ piece) (items ++ response) → text ≡ text_between c (receives_all wanted c response) → WritesPrefix a b text → OnErr r (EmitsPrefix wanted c bytes items a b)
+emits_prefix r wanted c bytes items piece response a b text is same prefix = on_err r _ (piece, response, is, subst (WritesPrefix a b) same prefix)
 
-pub tells_all : {I T U E F : Type 0} (r : Result T E) (s : Result U F) (keys : I → Stored → List (List ℕ)) (wanted : Wanted) (c : Client) (bytes : List ℕ) (items : List Told) (piece : List ℕ) (i : Informer I)
-    (news : List Told) (a b : Option (List ℕ)) (text : List ℕ) → is_ok s ≡ is_ok r → Items (bytes ++ piece) (items ++ news) → Runs keys i (taken (hears_all wanted c news)) (bytes ++ piece) (items ++ news)
-    → text ≡ text_between c (hears_all wanted c news) → trouble_in i ≡ trouble_after wanted c None news → OnOk r (Appends a b text) → OnOk s (Tells keys wanted c bytes items piece i a b)
-tells_all r s keys wanted c bytes items piece i news a b text same is runs told why written =
-    ok_then r s (Appends a b text) _ same (λ all. (news, is, runs, subst (Appends a b) told all, why)) written
+pub emits_all : {I T U E F : Type 0} (r : Result T E) (s : Result U F) (keys : I → Stored → List (List ℕ)) (wanted : Wanted) (c : Client) (bytes : List ℕ) (items : List ReplyItem) (piece : List ℕ) (i : Informer I)
+    (response : List ReplyItem) (a b : Option (List ℕ)) (text : List ℕ) → is_ok s ≡ is_ok r → Items (bytes ++ piece) (items ++ response) → InformerRepresents keys i (taken (receives_all wanted c response)) (bytes ++ piece) (items ++ response)
+    → text ≡ text_between c (receives_all wanted c response) → relist_reason_in i ≡ relist_reason_after wanted c None response → OnOk r (Appends a b text) → OnOk s (Emits keys wanted c bytes items piece i a b)
+emits_all r s keys wanted c bytes items piece i response a b text same is runs emitted why written =
+    ok_then r s (Appends a b text) _ same (λ all. (response, is, runs, subst (Appends a b) emitted all, why)) written
 
 -- ---- all that came so far, and more
 
-pub heard_none : {I : Type 0} (keys : I → Stored → List (List ℕ)) (wanted : Wanted) (c : Client) (i : Informer I) (x a : Option (List ℕ)) → c.notices ≡ [] → Runs keys i (asked c) [] []
-    → trouble_in i ≡ None → HeardSoFar keys wanted c i x x a a
-heard_none keys wanted c i x a none runs calm = (
+pub received_none : {I : Type 0} (keys : I → Stored → List (List ℕ)) (wanted : Wanted) (c : Client) (i : Informer I) (x a : Option (List ℕ)) → c.notices ≡ [] → InformerRepresents keys i (asked c) [] []
+    → relist_reason_in i ≡ None → ReceivedSoFar keys wanted c i x x a a
+received_none keys wanted c i x a none runs calm = (
   [],
   [],
   (start, (refl, refl)),
   Consumes-nil x,
-  subst (λ (ns : List Notice). Runs keys i (record { cache = c.cache; asks = c.asks; is_asking = true; notices = ns }) [] []) none runs,
-  subst (Appends a a) (sym (nothing_told c none)) (Appends-nil a),
+  subst (λ (ns : List Notice). InformerRepresents keys i (record { cache = c.cache; sync = c.sync; is_awaiting_reply = true; notices = ns }) [] []) none runs,
+  subst (Appends a a) (sym (nothing_emitted c none)) (Appends-nil a),
   calm,
 )
 
-pub heard_more : {I : Type 0} (keys : I → Stored → List (List ℕ)) (wanted other : Wanted) (c : Client) (i : Informer I) (x y z a b d : Option (List ℕ)) (bytes : List ℕ) (items : List Told) (piece : List ℕ)
-    → other ≡ wanted → c.notices ≡ [] → (hears_all wanted (asked c) items).is_asking ≡ true → Consumes x y bytes → Appends a b (text_between c (hears_all wanted (asked c) items)) → Consumes y z piece
-    → Tells keys other (taken (hears_all wanted (asked c) items)) bytes items piece i b d → HeardSoFar keys wanted c i x z a d
-heard_more keys wanted other c i x y z a b d bytes items piece same none asks read told more tells =
-    go (subst (λ (w : Wanted). Tells keys w (taken (hears_all wanted (asked c) items)) bytes items piece i b d) same tells)
+pub received_more : {I : Type 0} (keys : I → Stored → List (List ℕ)) (wanted other : Wanted) (c : Client) (i : Informer I) (x y z a b d : Option (List ℕ)) (bytes : List ℕ) (items : List ReplyItem) (piece : List ℕ)
+    → other ≡ wanted → c.notices ≡ [] → (receives_all wanted (asked c) items).is_awaiting_reply ≡ true → Consumes x y bytes → Appends a b (text_between c (receives_all wanted (asked c) items)) → Consumes y z piece
+    → Emits keys other (taken (receives_all wanted (asked c) items)) bytes items piece i b d → ReceivedSoFar keys wanted c i x z a d
+received_more keys wanted other c i x y z a b d bytes items piece same none asks read emitted more emits =
+    go (subst (λ (w : Wanted). Emits keys w (taken (receives_all wanted (asked c) items)) bytes items piece i b d) same emits)
   where
-    go : Tells keys wanted (taken (hears_all wanted (asked c) items)) bytes items piece i b d → HeardSoFar keys wanted c i x z a d
-    go (news, is, runs, written, why) = (
+    go : Emits keys wanted (taken (receives_all wanted (asked c) items)) bytes items piece i b d → ReceivedSoFar keys wanted c i x z a d
+    go (response, is, runs, written, why) = (
       bytes ++ piece,
-      items ++ news,
+      items ++ response,
       is,
       Consumes-trans x y z bytes piece read more,
-      subst (λ (e : Client). Runs keys i (taken e) (bytes ++ piece) (items ++ news)) (sym (is_ahead wanted c items news none)) runs,
-      written_after a b d _ _ _ (texts_join wanted c items news none asks) told written,
-      why ∙ troubles_join wanted c items news none asks,
+      subst (λ (e : Client). InformerRepresents keys i (taken e) (bytes ++ piece) (items ++ response)) (sym (is_ahead wanted c items response none)) runs,
+      written_after a b d _ _ _ (texts_join wanted c items response none asks) emitted written,
+      why ∙ relist_reasons_join wanted c items response none asks,
     )
 
-pub front_more : (wanted other : Wanted) (c : Client) (a b d : Option (List ℕ)) (bytes : List ℕ) (items : List Told) → other ≡ wanted → c.notices ≡ [] → (hears_all wanted (asked c) items).is_asking ≡ true
-    → Appends a b (text_between c (hears_all wanted (asked c) items)) → TellsFront other (taken (hears_all wanted (asked c) items)) bytes items b d → HeardFront wanted c a d
-front_more wanted other c a b d bytes items same none asks told tells =
-    let (more, news, is, front) = subst (λ (w : Wanted). TellsFront w (taken (hears_all wanted (asked c) items)) bytes items b d) same tells in
-    (bytes ++ more, items ++ news, is, front_after a b d _ _ _ (texts_join wanted c items news none asks) told front)
+pub prefix_more : (wanted other : Wanted) (c : Client) (a b d : Option (List ℕ)) (bytes : List ℕ) (items : List ReplyItem) → other ≡ wanted → c.notices ≡ [] → (receives_all wanted (asked c) items).is_awaiting_reply ≡ true
+    → Appends a b (text_between c (receives_all wanted (asked c) items)) → EmitsPrefix other (taken (receives_all wanted (asked c) items)) bytes items b d → ReceivedPrefix wanted c a d
+prefix_more wanted other c a b d bytes items same none asks emitted emits =
+    let (more, response, is, prefix) = subst (λ (w : Wanted). EmitsPrefix w (taken (receives_all wanted (asked c) items)) bytes items b d) same emits in
+    (bytes ++ more, items ++ response, is, prefix_after a b d _ _ _ (texts_join wanted c items response none asks) emitted prefix)
 
-pub front_all : {I : Type 0} (keys : I → Stored → List (List ℕ)) (wanted : Wanted) (c : Client) (i : Informer I) (x y a b : Option (List ℕ)) → HeardSoFar keys wanted c i x y a b → HeardFront wanted c a b
-front_all keys wanted c i x y a b (bytes, items, is, read, runs, written, why) =
-    let text = text_between c (hears_all wanted (asked c) items) in
+pub prefix_all : {I : Type 0} (keys : I → Stored → List (List ℕ)) (wanted : Wanted) (c : Client) (i : Informer I) (x y a b : Option (List ℕ)) → ReceivedSoFar keys wanted c i x y a b → ReceivedPrefix wanted c a b
+prefix_all keys wanted c i x y a b (bytes, items, is, read, runs, written, why) =
+    let text = text_between c (receives_all wanted (asked c) items) in
     (bytes, items, is, (text, [], sym (append-nil text), written))

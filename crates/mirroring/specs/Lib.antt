@@ -1,3 +1,3 @@
-pub mod Telling
+pub mod Printing
 pub mod Turns
 pub mod Pieces

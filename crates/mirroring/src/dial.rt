@@ -1,13 +1,13 @@
 //! Connections to a server, as a client sees them.
 
-use reflector::Trouble;
+use reflector::RelistReason;
 use std::io;
 use std::io::Read;
 
 /// Opens connections to a server.
 pub trait Dial {
     ghost use Rattle.std.specs.Prelude.{List, ℕ, IfOk, ⊤};
-    ghost use Rattle.reflector.specs.declared.trouble.Trouble.{Trouble};
+    ghost use Rattle.reflector.specs.declared.relist_reason.RelistReason.{RelistReason};
 
     /// Reads the reply. The connection ends when it is dropped.
     type Reader: Read + Drop;
@@ -15,8 +15,8 @@ pub trait Dial {
     // Asked this, the first dialer answers with the reader, and is the second one then.
     ghost dials: { Self → List ℕ → Self.Reader → Self → Type 0 } = { λ _ _ _ _. ⊤ };
 
-    // Told of this trouble, the first dialer is the second one then.
-    ghost learns: { Self → Trouble → Self → Type 0 } = { λ _ _ _. ⊤ };
+    // Told why it relists, the first dialer is the second one then.
+    ghost learns: { Self → RelistReason → Self → Type 0 } = { λ _ _ _. ⊤ };
 
     /// Opens a connection and sends the request whole.
     fn dial(&mut self, request: &[u8]) -> io::Result<Self::Reader>
@@ -24,6 +24,6 @@ pub trait Dial {
 
     /// The last reply was given up for this reason, and the next request is dialled once this returns. A program tells its
     /// user here, and waits a moment, as a server that refuses would else be asked again at once.
-    fn given_up(&mut self, trouble: Trouble)
-        ensures { learns self.old trouble self.new };
+    fn given_up(&mut self, relist_reason: RelistReason)
+        ensures { learns self.old relist_reason self.new };
 }

@@ -2,13 +2,13 @@
 //!
 //! Promises: each turn sends the request that is due, and all items of the bytes that are read count, however they are
 //! cut. What is written is the text of the first list's revision and of each notice, once and in order; after a fault a
-//! front of it.
+//! prefix of it.
 //! Stands on `reflector` for what items lead to, on `wire` for pieces.
 #![tactic(auto)]
 
 mod dial;
 mod fault;
-mod telling;
+mod printing;
 mod turning;
 
 pub use dial::Dial;

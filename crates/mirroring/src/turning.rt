@@ -1,25 +1,25 @@
-//! The turns of a mirror: dialling, reading, the informer, telling. The text stands in `telling`.
+//! The turns of a mirror: dialling, reading, the informer, telling. The text stands in `printing`.
 
 ghost use Rattle.std.specs.Prelude.{◌≡◌, [], List, None, ℕ, IfErr, MatchResult, OnErr, OnOk, false, true};
 ghost use Rattle.std.specs.Io.KnownBytes.{Consumes};
 ghost use Rattle.wireclient.specs.Reads.{Items};
-ghost use Rattle.wireclient.specs.Reply.{Told};
+ghost use Rattle.wireclient.specs.Reply.{ReplyItem};
 ghost use Rattle.reflector.specs.Client.{Client};
-ghost use Rattle.reflector.specs.Informer.{Runs, settings_in, trouble_in};
+ghost use Rattle.reflector.specs.InformerViews.{InformerRepresents, settings_in, relist_reason_in};
 ghost use Rattle.reflector.specs.Run.{asked, closed};
-ghost use Rattle.mirroring.specs.Pieces.{HeardFront, HeardSoFar, Tells, TellsFront};
-ghost use Rattle.mirroring.specs.Turns.{Answers, Is, IsIdle, IsTold, MirrorsAll, MirrorsFront, MirrorsOnce, MirrorsSome, is_undialled};
+ghost use Rattle.mirroring.specs.Pieces.{ReceivedPrefix, ReceivedSoFar, Emits, EmitsPrefix};
+ghost use Rattle.mirroring.specs.Turns.{Answers, Is, IsIdle, LearnsReason, MirrorsAll, MirrorsPrefix, MirrorsOnce, MirrorsSome, is_undialled};
 
 use crate::dial::Dial;
 use crate::fault::MirrorFault;
-use crate::telling::{first_revision, mirror_text, tell};
+use crate::printing::{first_revision, mirror_text, report};
 use indexer::IndexBy;
-use reflector::{Informer, Trouble};
+use reflector::{Informer, RelistReason};
 use std::alloc::{AllocError, Global};
 use std::io::{ErrorKind, Read, Write};
 use wire::read_piece;
 
-/// The informer takes a piece of its reply, and what it then has to tell is written.
+/// The informer takes a piece of its reply, and the lines of its notices are written.
 fn take_piece<I: IndexBy, W: Write>(
     alloc: Global,
     informer: &mut Informer<I>,
@@ -27,10 +27,10 @@ fn take_piece<I: IndexBy, W: Write>(
     out: &mut W,
 ) -> Result<(), MirrorFault>
     ensures settings { settings_in informer.new ≡ settings_in informer.old }
-    ensures told { (c : Client) (bytes : List ℕ) (items : List Told) → Runs (λ b s. I.keys b s) informer.old c bytes items → Items bytes items → c.is_asking ≡ true → c.notices ≡ []
-        → OnOk result (Tells (λ b s. I.keys b s) (settings_in informer.old).wanted c bytes items piece.now informer.new (W.contents out.old) (W.contents out.new)) }
-    ensures fault { (c : Client) (bytes : List ℕ) (items : List Told) → Runs (λ b s. I.keys b s) informer.old c bytes items → Items bytes items → c.is_asking ≡ true → c.notices ≡ []
-        → OnErr result (TellsFront (settings_in informer.old).wanted c bytes items (W.contents out.old) (W.contents out.new)) }
+    ensures emitted { (c : Client) (bytes : List ℕ) (items : List ReplyItem) → InformerRepresents (λ b s. I.keys b s) informer.old c bytes items → Items bytes items → c.is_awaiting_reply ≡ true → c.notices ≡ []
+        → OnOk result (Emits (λ b s. I.keys b s) (settings_in informer.old).wanted c bytes items piece.now informer.new (W.contents out.old) (W.contents out.new)) }
+    ensures fault { (c : Client) (bytes : List ℕ) (items : List ReplyItem) → InformerRepresents (λ b s. I.keys b s) informer.old c bytes items → Items bytes items → c.is_awaiting_reply ≡ true → c.notices ≡ []
+        → OnErr result (EmitsPrefix (settings_in informer.old).wanted c bytes items (W.contents out.old) (W.contents out.new)) }
     ensures dialled { IfErr result (λ f. is_undialled f ≡ false) }
 {
     let was = informer.revision();
@@ -38,7 +38,7 @@ fn take_piece<I: IndexBy, W: Write>(
     let first = first_revision(was, informer.revision());
     let notices = informer.take_notices();
     let text = mirror_text(alloc, first, &notices)?;
-    tell(out, text.as_str()).map_err(MirrorFault::Output)
+    report(out, text.as_str()).map_err(MirrorFault::Output)
 }
 
 /// Some of the bytes that a reader has next; none at its end, nor where a read fails, which is a cut.
@@ -56,22 +56,22 @@ fn next_piece<R: Read>(alloc: Global, reader: &mut R) -> Result<Vec<u8>, AllocEr
     Ok(Vec::new(alloc))
 }
 
-/// Hands the reply to the informer as long as that awaits it, and tells what comes of it.
-fn hear<R: Read, I: IndexBy, W: Write>(
+/// Hands the reply to the informer as long as that awaits it, and writes what comes of it.
+fn receive<R: Read, I: IndexBy, W: Write>(
     alloc: Global,
     reader: &mut R,
     informer: &mut Informer<I>,
     out: &mut W,
 ) -> Result<(), MirrorFault>
     ensures settings { settings_in informer.new ≡ settings_in informer.old }
-    ensures heard { (c : Client) → Runs (λ b s. I.keys b s) informer.old (asked c) [] [] → c.notices ≡ [] → trouble_in informer.old ≡ None
-        → OnOk result (HeardSoFar (λ b s. I.keys b s) (settings_in informer.old).wanted c informer.new (R.remaining reader.old) (R.remaining reader.new) (W.contents out.old) (W.contents out.new)) }
-    ensures fault { (c : Client) → Runs (λ b s. I.keys b s) informer.old (asked c) [] [] → c.notices ≡ [] → trouble_in informer.old ≡ None
-        → OnErr result (HeardFront (settings_in informer.old).wanted c (W.contents out.old) (W.contents out.new)) }
+    ensures received { (c : Client) → InformerRepresents (λ b s. I.keys b s) informer.old (asked c) [] [] → c.notices ≡ [] → relist_reason_in informer.old ≡ None
+        → OnOk result (ReceivedSoFar (λ b s. I.keys b s) (settings_in informer.old).wanted c informer.new (R.remaining reader.old) (R.remaining reader.new) (W.contents out.old) (W.contents out.new)) }
+    ensures fault { (c : Client) → InformerRepresents (λ b s. I.keys b s) informer.old (asked c) [] [] → c.notices ≡ [] → relist_reason_in informer.old ≡ None
+        → OnErr result (ReceivedPrefix (settings_in informer.old).wanted c (W.contents out.old) (W.contents out.new)) }
     ensures dialled { IfErr result (λ f. is_undialled f ≡ false) }
 {
     'pieces: for _ in 0..u64::MAX {
-        if !informer.is_asking() {
+        if !informer.is_awaiting_reply() {
             break;
         }
         let piece = next_piece(alloc, reader)?;
@@ -83,9 +83,9 @@ fn hear<R: Read, I: IndexBy, W: Write>(
     Ok(())
 }
 
-/// One connection: it is dialled, the request that is due is sent, and the reply is heard and told as far as it comes.
+/// One connection: it is dialled, the request that is due is sent, and the reply is received and written out as far as it comes.
 /// With a request under way already, nothing is done. Where the reply was given up, the informer then says why
-/// (`Informer::trouble`): who takes turn after turn waits a moment there.
+/// (`Informer::relist_reason`): who takes turn after turn waits a moment there.
 pub fn turn<D: Dial, I: IndexBy, W: Write>(
     alloc: Global,
     dialer: &mut D,
@@ -93,10 +93,10 @@ pub fn turn<D: Dial, I: IndexBy, W: Write>(
     out: &mut W,
 ) -> Result<(), MirrorFault>
     ensures settings { settings_in informer.new ≡ settings_in informer.old }
-    ensures told { (c : Client) → Is (λ b s. I.keys b s) informer.old c → IsIdle c
+    ensures emitted { (c : Client) → Is (λ b s. I.keys b s) informer.old c → IsIdle c
         → OnOk result (MirrorsOnce (λ b s. I.keys b s) (Answers (λ a q r b. D.dials a q r b) (λ r. D.Reader.remaining r)) (settings_in informer.old) dialer.old c dialer.new informer.new (W.contents out.old) (W.contents out.new)) }
     ensures fault { (c : Client) → Is (λ b s. I.keys b s) informer.old c → IsIdle c
-        → OnErr result (HeardFront (settings_in informer.old).wanted c (W.contents out.old) (W.contents out.new)) }
+        → OnErr result (ReceivedPrefix (settings_in informer.old).wanted c (W.contents out.old) (W.contents out.new)) }
     ensures undialled { (c : Client) → Is (λ b s. I.keys b s) informer.old c → IsIdle c → IfErr result (λ f. is_undialled f ≡ true → Is (λ b s. I.keys b s) informer.new (closed (asked c)) × (out.new ≡ out.old)) }
 {
     let Some(request) = informer.next_request()? else {
@@ -109,17 +109,17 @@ pub fn turn<D: Dial, I: IndexBy, W: Write>(
             return Err(MirrorFault::Dial(error));
         }
     };
-    let done = hear(alloc, &mut reader, informer, out);
+    let done = receive(alloc, &mut reader, informer, out);
     informer.closed();
     done
 }
 
 /// Tells the dialer why the last reply was given up, if it was.
-fn tell_trouble<D: Dial>(dialer: &mut D, trouble: Option<Trouble>)
-    ensures { IsTold (λ a t b. D.learns a t b) trouble dialer.old dialer.new }
+fn report_relist_reason<D: Dial>(dialer: &mut D, relist_reason: Option<RelistReason>)
+    ensures { LearnsReason (λ a t b. D.learns a t b) relist_reason dialer.old dialer.new }
 {
-    if let Some(trouble) = trouble {
-        dialer.given_up(trouble);
+    if let Some(relist_reason) = relist_reason {
+        dialer.given_up(relist_reason);
     }
 }
 
@@ -132,16 +132,16 @@ pub fn mirror<D: Dial, I: IndexBy, W: Write>(
     turns: u64,
 ) -> Result<(), MirrorFault>
     ensures settings { settings_in informer.new ≡ settings_in informer.old }
-    ensures told { (c : Client) → Is (λ b s. I.keys b s) informer.old c → IsIdle c
+    ensures emitted { (c : Client) → Is (λ b s. I.keys b s) informer.old c → IsIdle c
         → OnOk result (MirrorsAll (λ b s. I.keys b s) (Answers (λ a q r b. D.dials a q r b) (λ r. D.Reader.remaining r)) (λ a t b. D.learns a t b) (settings_in informer.old) turns dialer.old c dialer.new informer.new (W.contents out.old) (W.contents out.new)) }
     ensures fault { (c : Client) → Is (λ b s. I.keys b s) informer.old c → IsIdle c
-        → OnErr result (MirrorsFront (Answers (λ a q r b. D.dials a q r b) (λ r. D.Reader.remaining r)) (λ a t b. D.learns a t b) (settings_in informer.old) turns dialer.old c (W.contents out.old) (W.contents out.new)) }
+        → OnErr result (MirrorsPrefix (Answers (λ a q r b. D.dials a q r b) (λ r. D.Reader.remaining r)) (λ a t b. D.learns a t b) (settings_in informer.old) turns dialer.old c (W.contents out.old) (W.contents out.new)) }
     ensures undialled { (c : Client) → Is (λ b s. I.keys b s) informer.old c → IsIdle c
         → IfErr result (λ f. is_undialled f ≡ true → MirrorsSome (λ b s. I.keys b s) (Answers (λ a q r b. D.dials a q r b) (λ r. D.Reader.remaining r)) (λ a t b. D.learns a t b) (settings_in informer.old) turns dialer.old c informer.new (W.contents out.old) (W.contents out.new)) }
 {
     'turns: for _ in 0..turns {
         turn(alloc, dialer, informer, out)?;
-        tell_trouble(dialer, informer.trouble());
+        report_relist_reason(dialer, informer.relist_reason());
     }
     Ok(())
 }

@@ -59,13 +59,13 @@ is_decimal_by (b ∷ bs) all some lead = go (b == 48) refl
     go true is = eq-eqb _ _ (lead (eqb-true _ _ is))
     go false is = all
 
-leads : (n : ℕ) → n < 2 ^ 64 → get_or (decimal n) 0 0 ≡ 48 → length (decimal n) ≡ 1
-leads zero small first = ap length (decimal_digit 0 (omega arith))
-leads (suc n) small first = let above : 48 < get_or (decimal (suc n)) 0 0 = first_decimal (suc n) (omega arith) small in absurd (omega arith)
+reaches : (n : ℕ) → n < 2 ^ 64 → get_or (decimal n) 0 0 ≡ 48 → length (decimal n) ≡ 1
+reaches zero small first = ap length (decimal_digit 0 (omega arith))
+reaches (suc n) small first = let above : 48 < get_or (decimal (suc n)) 0 0 = first_decimal (suc n) (omega arith) small in absurd (omega arith)
 
 number_is : (max n : ℕ) → n < 2 ^ 64 → n ≤ max → decimal_up_to max (decimal n) ≡ Some n
 number_is max n small le =
-    let is = is_decimal_by (decimal n) (digits_decimal digits n small) (decimal_nonempty n small) (leads n small) in
+    let is = is_decimal_by (decimal n) (digits_decimal digits n small) (decimal_nonempty n small) (reaches n small) in
     let value : digits_value 10 (decimal n) ≡ n = digits_value-decimal digits n small in
     rw (is, value, le-leb n max le) refl
 

@@ -26,9 +26,9 @@ module _ (k : List ℕ) (d : Data) (old : Writing) where
   member_appended one new name value rest = ap (λ w. w.text ++ members_text w.later rest) (value ∙ ap (with_text (compact_text d)) name) ∙ named rest
 
 -- members in braces are an object
-pub object_written : (front : Members → Members) (old one two new : Writing) → one ≡ with_opening 123 old → AppendsMembers front one two → new ≡ with_closing 125 two → new ≡ with_text (compact_text (object (front no_members))) old
-object_written front old one two new opened members closed =
-    closed ∙ braced (front no_members) old two (members no_members ∙ ap (λ w. w.text ++ members_text w.later (front no_members)) opened)
+pub object_written : (prefix : Members → Members) (old one two new : Writing) → one ≡ with_opening 123 old → AppendsMembers prefix one two → new ≡ with_closing 125 two → new ≡ with_text (compact_text (object (prefix no_members))) old
+object_written prefix old one two new opened members closed =
+    closed ∙ braced (prefix no_members) old two (members no_members ∙ ap (λ w. w.text ++ members_text w.later (prefix no_members)) opened)
 
 -- ---- items
 

@@ -9,8 +9,8 @@ use Rattle.serde_json.specs.Find.{get_member, as_object, as_str}
 use Rattle.serde_json.specs.Read.{read, max_depth}
 use Rattle.fieldpath.specs.Elements.{name_text}
 use Rattle.fieldpath.specs.Scalars.{ascend}
-use Rattle.fieldpath.specs.Spelled.{IsSpelled, member_names}
-use Rattle.fieldpath.proofs.Spelled.{put_ascend, put_spelled}
+use Rattle.fieldpath.specs.Encodable.{IsEncodable, member_names}
+use Rattle.fieldpath.proofs.Encodable.{put_ascend, put_encodable}
 use Rattle.json_texts.specs.InOrder.{in_order}
 use Rattle.json_texts.proofs.Ordered.{compact-ordered}
 use Rattle.names.specs.Decimals.{version_of}
@@ -25,28 +25,28 @@ use Rattle.typed.specs.Fitting.{IsContent}
 use Rattle.typed.specs.Printing.{object_or_none, print, print_fields}
 use Rattle.typed.specs.Reading.{content_of}
 use Rattle.objects.proofs.FieldTexts.{put_depth}
-use Rattle.typed.proofs.Fitting.{content_placed}
+use Rattle.typed.proofs.Fitting.{content_well_typed}
 use Rattle.typed.proofs.Keeping.{reading_content}
 use Rattle.typed.proofs.Places.{places}
 use Rattle.typed.proofs.RoundTrip.{round}
 use Rattle.typed.proofs.Spelling.{printed_textual}
 use Rattle.objects.specs.State.{State}
 use Rattle.fieldset.proofs.Written.{written}
-use Rattle.fieldset.specs.BothWays.{HavePlaces}
-use Rattle.objects.specs.Placed.{IsPlacedState}
+use Rattle.fieldset.specs.FieldsV1Laws.{HavePlaces}
+use Rattle.objects.specs.WellTyped.{IsWellTypedState}
 use Rattle.objects.specs.ObjectText.{Identity, members_printed, metadata_members, metadata_of, entry_items, object_value, object_text}
 use Rattle.objects.specs.Owners.{Owners, HavePaths}
 use Rattle.json_values.specs.Members.{less, split_off}
 use Rattle.objects.specs.Parts.{if_read, own_members, split, version_in, metadata_left, put_metadata, entries_in, items_or_none, owners_of, owners_in, fields_of, state_with, parts_of, parts_in}
 use Rattle.objects.specs.Ranks.{have_paths, rising}
 use Rattle.objects.specs.ReadBack.{IsObjectText, OneForOne, max_version}
-use Rattle.objects.proofs.Entered.{AllPlaced, entries_there, items_put, owners_back}
+use Rattle.objects.proofs.Entered.{AllWellTyped, entries_there, items_put, owners_back}
 use Rattle.objects.proofs.Envelopes.{found_field, absent_field, metadata_printed, members_back, with_name, metadata_back, version_there, items_there, with_metadata, whole as the_whole, whole_split, fields_back, content_back}
 use Rattle.objects.proofs.Entries.{Pairs}
 use Rattle.objects.proofs.Rising.{all_found, owners_have_paths}
 use Rattle.objects.proofs.Within.{right_true}
-use Rattle.objects.proofs.Standing.{entries_stand}
-use Rattle.objects.proofs.Taken.{Kept, less_kept, found_spelled, found_depth, no_some, same_some}
+use Rattle.objects.proofs.LeafValue.{entries_stand}
+use Rattle.objects.proofs.Taken.{Kept, less_kept, found_encodable, found_depth, no_some, same_some}
 use Rattle.objects.proofs.Textual.{one_deeper, value_textual}
 
 fits : 9223372036854775807 < 2 ^ 64
@@ -64,7 +64,7 @@ module _ (all : Fields) (of : Identity) (v : ℕ) (state : State) where
   abbrev pub fields_printed : Members
   fields_printed = print_fields all state.content no_members
 
-  module _ (lawful : is_lawful type_of_all ≡ true) (has_metadata : shape_at (codes "metadata") all ≡ Some metadata) (no_version : shape_at (codes "apiVersion") all ≡ None) (no_kind : shape_at (codes "kind") all ≡ None) (placed : IsPlacedState type_of_all state) (low : v ≤ max_version) where
+  module _ (lawful : is_lawful type_of_all ≡ true) (has_metadata : shape_at (codes "metadata") all ≡ Some metadata) (no_version : shape_at (codes "apiVersion") all ≡ None) (no_kind : shape_at (codes "kind") all ≡ None) (well_typed : IsWellTypedState type_of_all state) (low : v ≤ max_version) where
     formed : is_well_formed type_of_all ≡ true
     formed = (and_parts (is_well_formed type_of_all) _ lawful).0
 
@@ -105,24 +105,24 @@ module _ (all : Fields) (of : Identity) (v : ℕ) (state : State) where
 
     print_ascends : (ms : Members) → print type_of_all state.content ≡ object_or_none ms → ascend (member_names ms) ≡ true
     print_ascends no_members is = refl
-    print_ascends (member k d ms) is = (printed_textual type_of_all state.content (object (member k d ms)) lawful placed.0 is).0.0
+    print_ascends (member k d ms) is = (printed_textual type_of_all state.content (object (member k d ms)) lawful well_typed.0 is).0.0
 
     content_there : content_of type_of_all (fields_of beside meta) ≡ Ok state.content
     content_there =
         ap (content_of type_of_all) (fields_back of.api_version of.kind meta fields_printed version_free kind_free printed_of_metadata (print_ascends fields_printed refl) metadata_there (metadata_back of.name of.namespace (decimal v) listed printed_of_metadata (metadata_printed in_metadata).2))
-        ∙ content_back all state.content (round type_of_all state.content formed (content_placed type_of_all formed state.content placed.0))
+        ∙ content_back all state.content (round type_of_all state.content formed (content_well_typed type_of_all formed state.content well_typed.0))
 
-    all_placed : AllPlaced type_of_all (fin.entries state.owners)
-    all_placed =
+    all_well_typed : AllWellTyped type_of_all (fin.entries state.owners)
+    all_well_typed =
         all_found (λ k paths. HavePlaces type_of_all paths) (fin.entries state.owners) (fin.entries_sorted state.owners)
-        (λ k paths is p there. places type_of_all state.content (content_placed type_of_all formed state.content placed.0) p (entries_stand state placed.1.1 k paths (fin.get-entries state.owners k ∙ is) p there))
+        (λ k paths is p there. places type_of_all state.content (content_well_typed type_of_all formed state.content well_typed.0) p (entries_stand state well_typed.1.1 k paths (fin.get-entries state.owners k ∙ is) p there))
 
     owners_there : owners_in type_of_all meta ≡ Some state.owners
     owners_there =
         ap (λ o. option_and_then owners_of (option_and_then (entries_in type_of_all) (items_or_none o))) (items_there of.name of.namespace (decimal v) listed printed_of_metadata (metadata_printed in_metadata).2)
         ∙ ap (λ o. option_and_then owners_of (option_and_then (entries_in type_of_all) o)) (items_put listed printed_of_metadata (metadata_printed in_metadata).2.3)
-        ∙ ap (option_and_then owners_of) (entries_there type_of_all of.api_version (fin.entries state.owners) (λ paths have. written type_of_all paths lawful have) all_placed)
-        ∙ owners_back state.owners placed.1.0
+        ∙ ap (option_and_then owners_of) (entries_there type_of_all of.api_version (fin.entries state.owners) (λ paths have. written type_of_all paths lawful have) all_well_typed)
+        ∙ owners_back state.owners well_typed.1.0
 
     version_read : version_in meta ≡ Some v
     version_read = ap (λ o. option_and_then version_of (option_and_then as_str o)) (version_there of.name of.namespace (decimal v) listed printed_of_metadata (metadata_printed in_metadata).2) ∙ version_back v low
@@ -135,30 +135,30 @@ module _ (all : Fields) (of : Identity) (v : ℕ) (state : State) where
         ∙ ap (λ r. option_map (λ x. (record { content = x; owners = state.owners }, v)) (if_read r)) content_there
 
 -- an object's value says what it was written of
-pub parts_back : (s : Shape) (of : Identity) (v : ℕ) (state : State) → IsObjectShape s → IsPlacedState s state → v ≤ max_version → parts_in s (object_value s of v state) ≡ Some (state, v)
-parts_back text of v state shaped placed low = absurd (true≢false (sym shaped.0))
-parts_back whole of v state shaped placed low = absurd (true≢false (sym shaped.0))
-parts_back truth of v state shaped placed low = absurd (true≢false (sym shaped.0))
-parts_back (struct_of all true) of v state shaped placed low = absurd (true≢false (sym shaped.0))
-parts_back (struct_of all false) of v state shaped placed low = struct_back all of v state shaped.1 shaped.2 shaped.3 shaped.4 placed low
-parts_back (map_of s b) of v state shaped placed low = absurd (true≢false (sym shaped.0))
-parts_back (list_of s kind) of v state shaped placed low = absurd (true≢false (sym shaped.0))
+pub parts_back : (s : Shape) (of : Identity) (v : ℕ) (state : State) → IsObjectShape s → IsWellTypedState s state → v ≤ max_version → parts_in s (object_value s of v state) ≡ Some (state, v)
+parts_back text of v state shaped well_typed low = absurd (true≢false (sym shaped.0))
+parts_back whole of v state shaped well_typed low = absurd (true≢false (sym shaped.0))
+parts_back truth of v state shaped well_typed low = absurd (true≢false (sym shaped.0))
+parts_back (struct_of all true) of v state shaped well_typed low = absurd (true≢false (sym shaped.0))
+parts_back (struct_of all false) of v state shaped well_typed low = struct_back all of v state shaped.1 shaped.2 shaped.3 shaped.4 well_typed low
+parts_back (map_of s b) of v state shaped well_typed low = absurd (true≢false (sym shaped.0))
+parts_back (list_of s kind) of v state shaped well_typed low = absurd (true≢false (sym shaped.0))
 
 -- an object's text is read as its value
 pub text_read : (s : Shape) (of : Identity) (v : ℕ) (state : State) (t : List ℕ) → IsObjectShape s → IsObjectText s of v state t → read t ≡ Some (object_value s of v state)
 unfolding object_text
-text_read s of v state t shaped said = ap read said.is_text ∙ (value_textual s shaped.1 of v state said.placed.0).3
+text_read s of v state t shaped said = ap read said.is_text ∙ (value_textual s shaped.1 of v state said.well_typed.0).3
 
 -- and so it is in order, and represents its value
 pub text_in_order : (s : Shape) (of : Identity) (v : ℕ) (state : State) (t : List ℕ) → IsObjectShape s → IsObjectText s of v state t → in_order t ≡ Some (object_value s of v state)
 unfolding object_text
 text_in_order s of v state t shaped said =
-    let textual = value_textual s shaped.1 of v state said.placed.0 in ap in_order said.is_text ∙ compact-ordered (object_value s of v state) textual.0 textual.1 textual.2
+    let textual = value_textual s shaped.1 of v state said.well_typed.0 in ap in_order said.is_text ∙ compact-ordered (object_value s of v state) textual.0 textual.1 textual.2
 
 pub one_for_one : OneForOne
 one_for_one s of v w a b t shaped one other =
     let same : object_value s of v a ≡ object_value s of w b = same_some _ _ (sym (text_read s of v a t shaped one) ∙ text_read s of w b t shaped other) in
-    let both : (a, v) ≡ (b, w) = same_some _ _ (sym (parts_back s of v a shaped one.placed one.numbered) ∙ ap (parts_in s) same ∙ parts_back s of w b shaped other.placed other.numbered) in
+    let both : (a, v) ≡ (b, w) = same_some _ _ (sym (parts_back s of v a shaped one.well_typed one.numbered) ∙ ap (parts_in s) same ∙ parts_back s of w b shaped other.well_typed other.numbered) in
     (ap (λ p. p.1) both, ap (λ p. p.0) both)
 
 -- ---- backwards: what is read of a spelled value is a content, at a version
@@ -186,8 +186,8 @@ object_is (object ns) ms e = ap object (same_some ns ms e)
 itself : (n : ℕ) → n ≤ n
 itself n = omega arith
 
-put_kept : (n : ℕ) (k : List ℕ) (d : Data) (ms : Members) → IsSpelled d → depth d ≤ n → Kept n ms → Kept n (put k d ms)
-put_kept n k d ms spelled deep h = (put_ascend k d ms h.0, put_spelled k d ms spelled h.1, put_depth n k d ms deep h.2)
+put_kept : (n : ℕ) (k : List ℕ) (d : Data) (ms : Members) → IsEncodable d → depth d ≤ n → Kept n ms → Kept n (put k d ms)
+put_kept n k d ms encodable deep h = (put_ascend k d ms h.0, put_encodable k d ms encodable h.1, put_depth n k d ms deep h.2)
 
 at_most : (a m n : ℕ) → suc a ≤ suc m → suc m ≤ n → suc a ≤ n
 at_most a m n h k = omega (arith, h, k)
@@ -204,10 +204,10 @@ fields_kept ms others envelope kept is =
     let value = then_some as_object (get_member (codes "metadata") (own_members ms)) found.0 found.1 in
     let is_object = object_is value.0 found.0 value.2 in
     let there : get_member (codes "metadata") (own_members ms) ≡ Some (object found.0) = value.1 ∙ ap Some is_object in
-    let spelled = found_spelled (codes "metadata") (object found.0) (own_members ms) own.1 there in
+    let encodable = found_encodable (codes "metadata") (object found.0) (own_members ms) own.1 there in
     let deep = found_depth n (codes "metadata") (object found.0) (own_members ms) own.2 there in
     let m = members_depth found.0 in
-    let inner : Kept m found.0 = (spelled.0, spelled.1, itself m) in
+    let inner : Kept m found.0 = (encodable.0, encodable.1, itself m) in
     let left = less_kept m (codes "managedFields") _ (less_kept m (codes "resourceVersion") _ (less_kept m (codes "namespace") _ (less_kept m (codes "name") found.0 inner))) in
     let whole = metadata_kept n (metadata_left found.0) (less (codes "metadata") (own_members ms)) m deep left (less_kept n (codes "metadata") (own_members ms) own) in
     subst (λ p. Kept n (put_metadata (metadata_left p.1) p.0)) found.2 whole
@@ -219,14 +219,14 @@ owners_have es w is = by_test (rising es && have_paths es) refl is
     by_test true h there = subst HavePaths (same_some (fin.from_entries es) w there) (owners_have_paths es (right_true (rising es) (have_paths es) h))
     by_test false h there = no_some w (sym there)
 
-pub parts_content : (s : Shape) (d : Data) (state : State) (v : ℕ) → is_well_formed s ≡ true → IsSpelled d → depth d ≤ max_depth → parts_in s d ≡ Some (state, v) → IsContent s state.content × HavePaths state.owners × (v ≤ max_version)
-parts_content s d state v formed spelled deep is =
+pub parts_content : (s : Shape) (d : Data) (state : State) (v : ℕ) → is_well_formed s ≡ true → IsEncodable d → depth d ≤ max_depth → parts_in s d ≡ Some (state, v) → IsContent s state.content × HavePaths state.owners × (v ≤ max_version)
+parts_content s d state v formed encodable deep is =
     let two = then_some (parts_of s) (split d) (state, v) is in
     let top = then_some (λ ms. split_off (codes "metadata") (own_members ms)) (as_object d) two.0 two.1 in
     let same = object_is d top.0 top.1 in
-    let spelled_object = subst IsSpelled same spelled in
+    let encodable_object = subst IsEncodable same encodable in
     let deep_object : suc (members_depth top.0) ≤ 127 = subst (λ x. depth x ≤ max_depth) same deep in
-    let kept = fields_kept top.0 two.0.0 two.0.1 (spelled_object.0, spelled_object.1, itself (members_depth top.0)) top.2 in
+    let kept = fields_kept top.0 two.0.0 two.0.1 (encodable_object.0, encodable_object.1, itself (members_depth top.0)) top.2 in
     let version = then_some (state_with s two.0.0 two.0.1) (version_in two.0.1) (state, v) two.2 in
     let owners = then_some (λ w. option_map (λ c. (record { content = c; owners = w }, version.0)) (if_read (content_of s (fields_of two.0.0 two.0.1)))) (owners_in s two.0.1) (state, v) version.2 in
     let content = map_some (λ c. (record { content = c; owners = owners.0 }, version.0)) (if_read (content_of s (fields_of two.0.0 two.0.1))) (state, v) owners.2 in

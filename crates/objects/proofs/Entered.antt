@@ -11,7 +11,7 @@ use Rattle.fieldset.specs.FieldsV1.{fields_v1_of, read_fields_v1}
 use Rattle.pathmap.specs.Beside.{is_empty}
 use Rattle.pathmap.specs.Contents.{PathSet}
 use Rattle.schema.specs.Shape.{Shape}
-use Rattle.fieldset.specs.BothWays.{HavePlaces}
+use Rattle.fieldset.specs.FieldsV1Laws.{HavePlaces}
 use Rattle.objects.specs.declared.manager.Operation.{Operation}
 use Rattle.objects.specs.declared.manager.Operation.TheVariants.{Apply, Update}
 use Rattle.objects.specs.declared.manager.Subresource.{Subresource}
@@ -46,10 +46,10 @@ module _ (s : Shape) (api_version : List ℕ) (paths : PathSet) where
 -- ---- all entries
 
 -- of paths that have places
-abbrev pub AllPlaced : Shape → Pairs → Type 0
-AllPlaced s es = AllByRecursion (λ e. HavePlaces s e.1) es
+abbrev pub AllWellTyped : Shape → Pairs → Type 0
+AllWellTyped s es = AllByRecursion (λ e. HavePlaces s e.1) es
 
-pub entries_there : (s : Shape) (api_version : List ℕ) (es : Pairs) → ((paths : PathSet) → HavePlaces s paths → read_fields_v1 s (fields_v1_of s paths) ≡ Ok paths) → AllPlaced s es
+pub entries_there : (s : Shape) (api_version : List ℕ) (es : Pairs) → ((paths : PathSet) → HavePlaces s paths → read_fields_v1 s (fields_v1_of s paths) ≡ Ok paths) → AllWellTyped s es
     → entries_in s (entry_items s api_version es) ≡ Some es
 entries_there s api_version [] back all = refl
 entries_there s api_version (e ∷ es) back all =

@@ -7,7 +7,7 @@ use Rattle.serde_json.specs.Written.{compact_text}
 use Rattle.json_texts.specs.Writing.{AppendsMembers, Writing, with_closing, with_opening, with_text}
 use Rattle.schema.specs.Shape.{Shape}
 use Rattle.objects.specs.Appended.{with_items}
-use Rattle.objects.specs.EntryTexts.{then_filled, then_front, then_manager}
+use Rattle.objects.specs.EntryTexts.{then_filled, then_prefix, then_manager}
 use Rattle.objects.specs.Managers.{pair, pairs}
 use Rattle.objects.specs.ObjectText.{entry_items, entry_value, members_with, put_filled}
 use Rattle.objects.specs.Owners.{Manager, operation_text, subresource_text}
@@ -29,14 +29,14 @@ filled_some k (b ∷ bs) rest some = refl
 
 entry_row : (a name operation sub : List ℕ) (d : Data)
     → put (codes "apiVersion") (string a) (put (codes "fieldsType") (string (codes "FieldsV1")) (put (codes "fieldsV1") d (put (codes "manager") (string name) (put (codes "operation") (string operation) (put_filled (codes "subresource") sub no_members)))))
-    ≡ then_front a d (member (codes "manager") (string name) (member (codes "operation") (string operation) (then_filled (codes "subresource") sub no_members)))
+    ≡ then_prefix a d (member (codes "manager") (string name) (member (codes "operation") (string operation) (then_filled (codes "subresource") sub no_members)))
 entry_row a name operation [] d = refl
 entry_row a name operation (b ∷ bs) d = refl
 
-pub entry_written : (a : List ℕ) (m : Manager) (d : Data) (old one two three new : Writing) → one ≡ with_opening 123 old → AppendsMembers (then_front a d) one two → AppendsMembers (then_manager m) two three → new ≡ with_closing 125 three
+pub entry_written : (a : List ℕ) (m : Manager) (d : Data) (old one two three new : Writing) → one ≡ with_opening 123 old → AppendsMembers (then_prefix a d) one two → AppendsMembers (then_manager m) two three → new ≡ with_closing 125 three
     → new ≡ with_text (compact_text (object (members_with a m d))) old
-entry_written a m d old one two three new opened front manager closed =
-    object_written (λ rest. then_front a d (then_manager m rest)) old one three new opened (λ rest. manager rest ∙ front (then_manager m rest)) closed
+entry_written a m d old one two three new opened prefix manager closed =
+    object_written (λ rest. then_prefix a d (then_manager m rest)) old one three new opened (λ rest. manager rest ∙ prefix (then_manager m rest)) closed
     ∙ ap (λ ms. with_text (compact_text (object ms)) old) (sym (entry_row a m.name (operation_text m.operation) (subresource_text m.subresource) d))
 
 -- ---- entry after entry

@@ -9,14 +9,14 @@ use Rattle.serde_json.specs.Find.{get_member, as_object}
 use Rattle.serde_json.proofs.Views.{get_member-put, get_member-put_other}
 use Rattle.fieldpath.specs.Elements.{name_text}
 use Rattle.fieldpath.specs.Scalars.{ascend, ascend_from}
-use Rattle.fieldpath.specs.Spelled.{member_names}
+use Rattle.fieldpath.specs.Encodable.{member_names}
 use Rattle.fieldpath.proofs.Names.{ascend_rest, first_below, further, rest_above}
 use Rattle.pathmap.specs.Contents.{Content}
 use Rattle.pathmap.specs.Insides.{inside}
 use Rattle.schema.specs.Lawful.{names_of}
 use Rattle.schema.specs.Shape.{Shape, text, struct_of, map_of, Fields, no_fields, field, shape_at}
 use Rattle.schema.specs.ObjectShape.{metadata}
-use Rattle.typed.specs.Placed.{ReadsBack}
+use Rattle.typed.specs.WellTyped.{ReadsBack}
 use Rattle.typed.specs.Printing.{object_or_none, with_member, print, print_fields}
 use Rattle.typed.specs.Reading.{content_of}
 use Rattle.objects.specs.ObjectText.{members_printed, put_entries}

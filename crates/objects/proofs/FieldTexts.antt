@@ -10,14 +10,14 @@ use Rattle.serde_json.specs.Data.{Data, Members, no_members, member, put, depth,
 use Rattle.serde_json.specs.Written.{members_have_float}
 use Rattle.fieldpath.specs.Elements.{name_text, field_name}
 use Rattle.fieldpath.specs.Scalars.{ascend, ascend_from}
-use Rattle.fieldpath.specs.Spelled.{MembersAreSpelled, member_names}
-use Rattle.fieldpath.proofs.Spelled.{put_ascend, put_spelled}
+use Rattle.fieldpath.specs.Encodable.{MembersAreEncodable, member_names}
+use Rattle.fieldpath.proofs.Encodable.{put_ascend, put_encodable}
 use Rattle.fieldset.specs.FieldsV1 as v1
 use Rattle.pathmap.specs.Contents.{Content, marked}
 use Rattle.pathmap.specs.Insides.{inside, heads}
 use Rattle.schema.specs.Lawful.{depth_of, fields_depth}
 use Rattle.schema.specs.Shape.{atomic, set, keyed, Shape, text, whole, truth, struct_of, map_of, list_of, Fields, no_fields, field}
-use Rattle.objects.specs.FieldTexts.{FieldsV1IsTextual}
+use Rattle.objects.specs.FieldTextLaws.{FieldsV1IsTextual}
 use Rattle.typed.proofs.Floats.{both, put_clean}
 use Rattle.typed.proofs.KeyFields.{AreRising}
 use Rattle.typed.proofs.RoundTrip.{heads_rise}
@@ -25,7 +25,7 @@ use Rattle.typed.proofs.Spelling.{lawful_depth, textual}
 
 -- members in order, spelled, without floats, and no deeper than n
 abbrev pub Fine : ℕ → Members → Type 0
-Fine n ms = (ascend (member_names ms) ≡ true) × MembersAreSpelled ms × (members_have_float ms ≡ false) × (members_depth ms ≤ n)
+Fine n ms = (ascend (member_names ms) ≡ true) × MembersAreEncodable ms × (members_have_float ms ≡ false) × (members_depth ms ≤ n)
 
 no_deeper : (a b n : ℕ) → a ≤ n → b ≤ n → max a b ≤ n
 no_deeper a b n h k = omega (arith, h, k)
@@ -70,7 +70,7 @@ put_depth n k d (member l e ms) one old =
     put_depth_at n (slice_cmp nat_cmp k l) k l d e ms (put k d ms) one (left_deep (depth e) (members_depth ms) n old) rest (put_depth n k d ms one rest)
 
 fine_leaf : (n : ℕ) (k : List ℕ) (ms : Members) → 1 ≤ n → Fine n ms → Fine n (put k v1.leaf ms)
-fine_leaf n k ms some fine = (put_ascend k v1.leaf ms fine.0, put_spelled k v1.leaf ms (refl, tt) fine.1, put_clean k v1.leaf ms refl fine.2, put_depth n k v1.leaf ms some fine.3)
+fine_leaf n k ms some fine = (put_ascend k v1.leaf ms fine.0, put_encodable k v1.leaf ms (refl, tt) fine.1, put_clean k v1.leaf ms refl fine.2, put_depth n k v1.leaf ms some fine.3)
 
 fine_names : (n : ℕ) (names : List (List ℕ)) (ms : Members) → 1 ≤ n → Fine n ms → Fine n (v1.put_names names ms)
 fine_names n [] ms some fine = fine
@@ -95,7 +95,7 @@ names_each inner [] = refl
 names_each inner (e ∷ es) = ap (λ l. e ∷ l) (names_each inner es)
 
 abbrev FineBelow : ℕ → Members → Type 0
-FineBelow n ms = MembersAreSpelled ms × (members_have_float ms ≡ false) × (members_depth ms ≤ suc n)
+FineBelow n ms = MembersAreEncodable ms × (members_have_float ms ≡ false) × (members_depth ms ≤ suc n)
 
 each_below : (n : ℕ) (inner : List ℕ → Members) → ((e : List ℕ) → Fine n (inner e)) → (es : List (List ℕ)) → FineBelow n (v1.each inner es)
 each_below n inner one [] = (tt, refl, none_deep (suc n))

@@ -13,9 +13,9 @@ use Rattle.json_texts.proofs.Parts.{names-data, ordered_parts}
 use Rattle.serde_json.specs.Data.{object, Members, no_members, member, put}
 use Rattle.serde_json.specs.Find.{get_member}
 use Rattle.fieldpath.specs.Scalars.{ascend, ascend_from}
-use Rattle.fieldpath.specs.Spelled.{member_names}
+use Rattle.fieldpath.specs.Encodable.{member_names}
 use Rattle.fieldpath.proofs.Names.{ascend_rest, first_below, rest_above}
-use Rattle.fieldpath.proofs.Spelled.{put_ascend}
+use Rattle.fieldpath.proofs.Encodable.{put_ascend}
 use Rattle.json_values.specs.Members.{less}
 use Rattle.objects.specs.Borrowed.{Entry, AreOthers, data_in, place_in}
 use Rattle.objects.specs.Parts.{put_metadata}

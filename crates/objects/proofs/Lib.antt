@@ -5,7 +5,7 @@ pub mod Taking
 pub mod Objects
 pub mod Taken
 pub mod Rising
-pub mod Standing
+pub mod LeafValue
 pub mod Envelopes
 pub mod Entered
 pub mod FieldTexts

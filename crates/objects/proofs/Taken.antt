@@ -10,7 +10,7 @@ use Rattle.std.proofs.lemmas.Cmp.{nat_list_cmp_total}
 use Rattle.serde_json.specs.Data.{Data, Members, no_members, member, put, depth, members_depth}
 use Rattle.serde_json.specs.Find.{get_member}
 use Rattle.fieldpath.specs.Scalars.{ascend, ascend_from}
-use Rattle.fieldpath.specs.Spelled.{IsSpelled, MembersAreSpelled, member_names}
+use Rattle.fieldpath.specs.Encodable.{IsEncodable, MembersAreEncodable, member_names}
 pub use Rattle.fieldpath.proofs.Names.{ascend_rest, first_below, further, rest_above}
 use Rattle.json_values.specs.Members.{less}
 use Rattle.objects.proofs.Within.{both_true}
@@ -80,9 +80,9 @@ less_put k d (member l e ms) h = by_order (cmp k l) refl (less_put k d ms) h
 
 -- ---- one put back
 
-put_front : (l : List ℕ) (e : Data) (ms : Members) → ascend_from l (member_names ms) ≡ true → put l e ms ≡ member l e ms
-put_front l e no_members h = refl
-put_front l e (member m g ms) h = ap (λ o. match_ordering o (member l e (member m g ms)) (member m e ms) (member m g (put l e ms))) (first_below l m (member_names ms) h)
+put_prefix : (l : List ℕ) (e : Data) (ms : Members) → ascend_from l (member_names ms) ≡ true → put l e ms ≡ member l e ms
+put_prefix l e no_members h = refl
+put_prefix l e (member m g ms) h = ap (λ o. match_ordering o (member l e (member m g ms)) (member m e ms) (member m g (put l e ms))) (first_below l m (member_names ms) h)
 
 pub absent_above : (k l : List ℕ) (ms : Members) → cmp k l ≡ Less → ascend_from l (member_names ms) ≡ true → get_member k ms ≡ None
 absent_above k l no_members lt h = refl
@@ -99,13 +99,13 @@ put_back k d e (member l f ms) up h = by_order (cmp k l) refl (put_back k d e ms
     by_order Less is later there = no_some e (sym there ∙ absent_above k l ms is up)
     by_order Equal is later there =
         let same = tied k l is in
-        ap (put k e) (less_tied k l d ms is) ∙ ap (λ n. put n e ms) same ∙ put_front l e ms up ∙ ap (λ x. member l x ms) (sym (same_some f e there))
+        ap (put k e) (less_tied k l d ms is) ∙ ap (λ n. put n e ms) same ∙ put_prefix l e ms up ∙ ap (λ x. member l x ms) (sym (same_some f e there))
     by_order Greater is later there = ap (put k e) (less_later k l f (put k d ms) is) ∙ put_later k l e f (less k (put k d ms)) is ∙ ap (member l f) (later there)
 
 -- ---- what stays in order, spelled, and no deeper than n
 
 abbrev pub Kept : ℕ → Members → Type 0
-Kept n ms = (ascend (member_names ms) ≡ true) × MembersAreSpelled ms × (members_depth ms ≤ n)
+Kept n ms = (ascend (member_names ms) ≡ true) × MembersAreEncodable ms × (members_depth ms ≤ n)
 
 pub left_deep : (a b n : ℕ) → max a b ≤ n → a ≤ n
 left_deep a b n h = omega (arith, h)
@@ -134,11 +134,11 @@ less_ascend k (member l d ms) h = by_order (cmp k l) (less_from l k ms h)
     by_order Equal later = ascend_rest l (member_names ms) h
     by_order Greater later = later
 
-pub less_spelled : (k : List ℕ) (ms : Members) → MembersAreSpelled ms → MembersAreSpelled (less k ms)
-less_spelled k no_members h = tt
-less_spelled k (member l d ms) h = by_order (cmp k l) (less_spelled k ms h.1)
+pub less_encodable : (k : List ℕ) (ms : Members) → MembersAreEncodable ms → MembersAreEncodable (less k ms)
+less_encodable k no_members h = tt
+less_encodable k (member l d ms) h = by_order (cmp k l) (less_encodable k ms h.1)
   where
-    by_order : (o : Ordering) → MembersAreSpelled (less k ms) → MembersAreSpelled (match_ordering o (member l d (less k ms)) ms (member l d (less k ms)))
+    by_order : (o : Ordering) → MembersAreEncodable (less k ms) → MembersAreEncodable (match_ordering o (member l d (less k ms)) ms (member l d (less k ms)))
     by_order Less later = (h.0, later)
     by_order Equal later = h.1
     by_order Greater later = (h.0, later)
@@ -156,17 +156,17 @@ less_depth n k (member l d ms) h = by_order (cmp k l) (less_depth n k ms (right_
     by_order Greater later = no_deeper (depth d) (members_depth (less k ms)) n one later
 
 pub less_kept : (n : ℕ) (k : List ℕ) (ms : Members) → Kept n ms → Kept n (less k ms)
-less_kept n k ms h = (less_ascend k ms h.0, less_spelled k ms h.1, less_depth n k ms h.2)
+less_kept n k ms h = (less_ascend k ms h.0, less_encodable k ms h.1, less_depth n k ms h.2)
 
 -- ---- what is found
 
-pub found_spelled : (k : List ℕ) (d : Data) (ms : Members) → MembersAreSpelled ms → get_member k ms ≡ Some d → IsSpelled d
-found_spelled k d no_members all h = no_some d (sym h)
-found_spelled k d (member l e ms) all h = by_order (cmp k l) (found_spelled k d ms all.1) h
+pub found_encodable : (k : List ℕ) (d : Data) (ms : Members) → MembersAreEncodable ms → get_member k ms ≡ Some d → IsEncodable d
+found_encodable k d no_members all h = no_some d (sym h)
+found_encodable k d (member l e ms) all h = by_order (cmp k l) (found_encodable k d ms all.1) h
   where
-    by_order : (o : Ordering) → (get_member k ms ≡ Some d → IsSpelled d) → match_ordering o (get_member k ms) (Some e) (get_member k ms) ≡ Some d → IsSpelled d
+    by_order : (o : Ordering) → (get_member k ms ≡ Some d → IsEncodable d) → match_ordering o (get_member k ms) (Some e) (get_member k ms) ≡ Some d → IsEncodable d
     by_order Less later there = later there
-    by_order Equal later there = subst IsSpelled (same_some e d there) all.0
+    by_order Equal later there = subst IsEncodable (same_some e d there) all.0
     by_order Greater later there = later there
 
 pub found_depth : (n : ℕ) (k : List ℕ) (d : Data) (ms : Members) → members_depth ms ≤ n → get_member k ms ≡ Some d → depth d ≤ n

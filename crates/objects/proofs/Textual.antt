@@ -7,28 +7,28 @@ use Rattle.std.specs.Ordering.{match_ordering}
 use Rattle.serde_json.specs.Data.{Data, null, boolean, number, string, array, object, Items, no_items, item, Members, no_members, member, put, depth, items_depth, members_depth}
 use Rattle.serde_json.specs.Find.{get_member}
 use Rattle.serde_json.specs.Written.{has_float, items_have_float, members_have_float}
-use Rattle.fieldpath.specs.Spelled.{IsSpelled, AreSpelled}
-use Rattle.fieldpath.proofs.Spelled.{put_ascend, put_spelled}
+use Rattle.fieldpath.specs.Encodable.{IsEncodable, AreEncodable}
+use Rattle.fieldpath.proofs.Encodable.{put_ascend, put_encodable}
 use Rattle.fieldset.specs.FieldsV1 as v1
 use Rattle.pathmap.specs.Contents.{PathSet, marked}
 use Rattle.schema.specs.Lawful.{depth_of, depth_limit, is_lawful, is_well_formed}
 use Rattle.schema.specs.Shape.{Shape}
 use Rattle.typed.specs.Fitting.{IsContent, IsTextual}
-use Rattle.typed.specs.Placed.{ReadsBack}
+use Rattle.typed.specs.WellTyped.{ReadsBack}
 use Rattle.typed.specs.Printing.{print}
 use Rattle.typed.proofs.Depths.{content_deep}
 use Rattle.objects.proofs.FieldTexts.{Fine, fine_none, fine_more, members_fine, put_depth}
-use Rattle.typed.proofs.Fitting.{content_placed}
+use Rattle.typed.proofs.Fitting.{content_well_typed}
 use Rattle.typed.proofs.Floats.{both, neither, put_clean}
 use Rattle.typed.proofs.RoundTrip.{round}
 use Rattle.typed.proofs.Spelling.{lawful_depth, printed_textual, textual}
 use Rattle.objects.specs.State.{State}
 use Rattle.objects.specs.ObjectText.{Identity, members_printed, metadata_members, metadata_of, put_entries, put_filled, entry_members, entry_value, entry_items, object_value}
 use Rattle.objects.specs.Owners.{Manager, Owners, operation_text, subresource_text}
-use Rattle.objects.proofs.Taken.{no_some, same_some, cmp, no_deeper, found_spelled, found_depth}
+use Rattle.objects.proofs.Taken.{no_some, same_some, cmp, no_deeper, found_encodable, found_depth}
 
 abbrev pub IsFine : ℕ → Data → Type 0
-IsFine n d = IsSpelled d × (has_float d ≡ false) × (depth d ≤ n)
+IsFine n d = IsEncodable d × (has_float d ≡ false) × (depth d ≤ n)
 
 pub one_deeper : (a n : ℕ) → a ≤ n → suc a ≤ suc n
 one_deeper a n h = omega (arith, h)
@@ -43,7 +43,7 @@ none_deep : (n : ℕ) → 0 ≤ n
 none_deep n = omega arith
 
 fine_put : (n : ℕ) (k : List ℕ) (d : Data) (ms : Members) → IsFine n d → Fine n ms → Fine n (put k d ms)
-fine_put n k d ms one all = (put_ascend k d ms all.0, put_spelled k d ms one.0 all.1, put_clean k d ms one.1 all.2, put_depth n k d ms one.2 all.3)
+fine_put n k d ms one all = (put_ascend k d ms all.0, put_encodable k d ms one.0 all.1, put_clean k d ms one.1 all.2, put_depth n k d ms one.2 all.3)
 
 fine_text : (n : ℕ) (t : List ℕ) → IsFine n (string t)
 fine_text n t = (tt, refl, none_deep n)
@@ -63,7 +63,7 @@ found_clean k d (member l e ms) all h = by_order (cmp k l) (found_clean k d ms (
     by_order Greater later there = later there
 
 fine_found : (n : ℕ) (k : List ℕ) (ms : Members) → Fine n ms → (d : Data) → get_member k ms ≡ Some d → IsFine n d
-fine_found n k ms h d is = (found_spelled k d ms h.1 is, found_clean k d ms h.2 is, found_depth n k d ms h.3 is)
+fine_found n k ms h d is = (found_encodable k d ms h.1 is, found_clean k d ms h.2 is, found_depth n k d ms h.3 is)
 
 fine_of_data : (n : ℕ) (d : Data) → IsFine n d → Fine n (members_printed (Some d))
 fine_of_data n null h = fine_none n
@@ -100,7 +100,7 @@ module _ (s : Shape) (lawful : is_lawful s ≡ true) where
       fine_object 100 (entry_members s api_version m paths) (fine_put 100 (codes "apiVersion") (string api_version) _ (fine_text 100 api_version) kind)
 
   abbrev FineItems : ℕ → Items → Type 0
-  FineItems n ds = AreSpelled ds × (items_have_float ds ≡ false) × (items_depth ds ≤ n)
+  FineItems n ds = AreEncodable ds × (items_have_float ds ≡ false) × (items_depth ds ≤ n)
 
   items_fine : (api_version : List ℕ) (es : List (Manager × PathSet)) → FineItems 101 (entry_items s api_version es)
   items_fine api_version [] = (tt, refl, none_deep 101)
@@ -120,8 +120,8 @@ module _ (s : Shape) (lawful : is_lawful s ≡ true) where
   metadata_fine of version owners members fine =
       let entries = entries_fine (entry_items s of.api_version (fin.entries owners)) members (items_fine of.api_version (fin.entries owners)) fine in
       let numbered = fine_put 102 (codes "resourceVersion") (string (decimal version)) _ (fine_text 102 (decimal version)) entries in
-      let placed = fine_put 102 (codes "namespace") (string of.namespace) _ (fine_text 102 of.namespace) numbered in
-      fine_object 102 (metadata_of s of version owners members) (fine_put 102 (codes "name") (string of.name) _ (fine_text 102 of.name) placed)
+      let well_typed = fine_put 102 (codes "namespace") (string of.namespace) _ (fine_text 102 of.namespace) numbered in
+      fine_object 102 (metadata_of s of version owners members) (fine_put 102 (codes "name") (string of.name) _ (fine_text 102 of.name) well_typed)
 
   -- ---- the object
 
@@ -129,7 +129,7 @@ module _ (s : Shape) (lawful : is_lawful s ≡ true) where
     printed_fine : (d : Data) → print s state.content ≡ Some d → IsFine 100 d
     printed_fine d is =
         let formed = (and_parts (is_well_formed s) (nat_le (depth_of s) (depth_limit s)) lawful).0 in
-        let reads = (subst (λ o. ReadsBack s o state.content) is (round s state.content formed (content_placed s formed state.content content))).1 in
+        let reads = (subst (λ o. ReadsBack s o state.content) is (round s state.content formed (content_well_typed s formed state.content content))).1 in
         let text = printed_textual s state.content d lawful content is in
         (text.0, text.1, at_most (depth d) (depth_of s) 100 (content_deep s d state.content reads) (at_most (depth_of s) 16 100 (lawful_depth s lawful) (omega arith)))
 

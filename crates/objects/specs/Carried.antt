@@ -9,11 +9,11 @@ use Rattle.objects.specs.Owners.{Manager, Owners}
 
 -- what a manager owns then: those of its paths that still stand, and each new one at or below which it owned one
 abbrev pub carried_paths : PathSet → PathSet → PathSet → PathSet
-carried_paths stands new owned = set.union (set.intersection owned stands) (set.difference new (clear_of new owned))
+carried_paths present new owned = set.union (set.intersection owned present) (set.difference new (clear_of new owned))
 
 -- each entry so; what is empty then vanishes
 abbrev pub carried_entries : PathSet → PathSet → List (Manager × PathSet) → List (Manager × PathSet)
-carried_entries stands new es = filter (λ e. not (is_empty e.1)) (map (λ e. (e.0, carried_paths stands new e.1)) es)
+carried_entries present new es = filter (λ e. not (is_empty e.1)) (map (λ e. (e.0, carried_paths present new e.1)) es)
 
 unfoldable pub carried_owners : PathSet → PathSet → Owners → Owners
-carried_owners stands new w = fin.from_entries (carried_entries stands new (fin.entries w))
+carried_owners present new w = fin.from_entries (carried_entries present new (fin.entries w))

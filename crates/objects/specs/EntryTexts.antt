@@ -4,8 +4,8 @@ use Rattle.serde_json.specs.Data.{Data, string, Members, member}
 use Rattle.objects.specs.Owners.{Manager, operation_text, subresource_text}
 
 -- those before the manager's, and the others behind them
-abbrev pub then_front : List ℕ → Data → Members → Members
-then_front api_version fields rest = member (codes "apiVersion") (string api_version) (member (codes "fieldsType") (string (codes "FieldsV1")) (member (codes "fieldsV1") fields rest))
+abbrev pub then_prefix : List ℕ → Data → Members → Members
+then_prefix api_version fields rest = member (codes "apiVersion") (string api_version) (member (codes "fieldsType") (string (codes "FieldsV1")) (member (codes "fieldsV1") fields rest))
 
 -- a text, unless it is empty
 abbrev pub then_filled : List ℕ → List ℕ → Members → Members

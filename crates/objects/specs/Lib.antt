@@ -3,7 +3,7 @@ pub mod Codes
 pub mod Managers
 pub mod State
 pub mod Ranks
-pub mod Placed
+pub mod WellTyped
 pub mod ObjectText
 pub mod Views
 pub mod ReadBack
@@ -14,4 +14,4 @@ pub mod EntryTexts
 pub mod Appended
 pub mod InOrder
 pub mod Carried
-pub mod FieldTexts
+pub mod FieldTextLaws

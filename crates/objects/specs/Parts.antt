@@ -26,10 +26,10 @@ use Rattle.objects.specs.Owners.{Manager, Owners, manager_by}
 use Rattle.objects.specs.Ranks.{have_paths, rising}
 
 -- What a call returned, by its view, is what was read, unless memory ran out; refused, nothing was.
-abbrev pub Gives : {X Y : Type 0} → (X → Y) → Result X ObjectFault → Option Y → Type 0
-Gives view (Ok x) read = read ≡ Some (view x)
-Gives view (Err NotCanonical) read = read ≡ None
-Gives view (Err Memory) read = Unit {0}
+abbrev pub Returns : {X Y : Type 0} → (X → Y) → Result X ObjectFault → Option Y → Type 0
+Returns view (Ok x) read = read ≡ Some (view x)
+Returns view (Err NotCanonical) read = read ≡ None
+Returns view (Err Memory) read = Unit {0}
 
 abbrev pub if_read : {X : Type 0} → Read X → Option X
 if_read (Ok x) = Some x

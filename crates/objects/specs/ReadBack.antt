@@ -5,7 +5,7 @@ use Rattle.std.specs.declared.result.Result.TheVariants.{Ok, Err}
 use Rattle.schema.specs.ObjectShape.{IsObjectShape}
 use Rattle.schema.specs.Shape.{Shape}
 use Rattle.objects.specs.State.{State}
-use Rattle.objects.specs.Placed.{IsPlacedState}
+use Rattle.objects.specs.WellTyped.{IsWellTypedState}
 use Rattle.objects.specs.ObjectText.{Identity, object_text}
 use Rattle.objects.specs.Views.{state_of}
 use Rattle.objects.specs.declared.fault.ObjectFault.{ObjectFault}
@@ -18,7 +18,7 @@ max_version = 9223372036854775807
 
 -- the text of an object at a version: a content of the type's schema, and owners of its paths
 pub record IsObjectText (s : Shape) (of : Identity) (version : ℕ) (state : State) (text : List ℕ) : Type 0 where
-  pub placed : IsPlacedState s state
+  pub well_typed : IsWellTypedState s state
   pub numbered : version ≤ max_version
   pub is_text : text ≡ object_text s of version state
 

@@ -1,7 +1,7 @@
 //! Laws: no two objects have the same text, and FieldsV1 values are spelled by theirs. The text is printed in `object` and
 //! read in `read_back`.
 
-ghost use Rattle.objects.specs.FieldTexts.{FieldsV1IsTextual};
+ghost use Rattle.objects.specs.FieldTextLaws.{FieldsV1IsTextual};
 ghost use Rattle.objects.specs.ReadBack.{OneForOne};
 
 /// An object's text says one version, one content and its owners: no other object of the type and key has this text.

@@ -7,7 +7,7 @@ ghost use Rattle.schema.specs.Shape.{shape};
 ghost use Rattle.fieldset.specs.FieldsV1.{read_fields_v1};
 ghost use Rattle.objects.specs.Borrowed.{data_in};
 ghost use Rattle.objects.specs.Managers.{manager_view, pair, pairs};
-ghost use Rattle.objects.specs.Parts.{Gives, entries_in, entries_listed, entry_in, if_ok, manager_in, operation_in, owners_in, set_in, subresource_in};
+ghost use Rattle.objects.specs.Parts.{Returns, entries_in, entries_listed, entry_in, if_ok, manager_in, operation_in, owners_in, set_in, subresource_in};
 
 use crate::fault::ObjectFault;
 use crate::manager::{Manager, Operation, Subresource};
@@ -42,7 +42,7 @@ fn subresource_in<'a>(members: &[(&'a str, Value<'a>)]) -> Option<Subresource>
 
 /// Who wrote.
 fn read_manager<'a>(alloc: Global, members: &[(&'a str, Value<'a>)]) -> Result<Manager, ObjectFault>
-    ensures { Gives manager_view result (manager_in (data_in members.now)) }
+    ensures { Returns manager_view result (manager_in (data_in members.now)) }
 {
     let Some(name) = text_at(members, "manager") else {
         return Err(ObjectFault::NotCanonical);
@@ -63,7 +63,7 @@ fn read_fields_v1(
     value: &Value<'_>,
 ) -> Result<FieldSet, ObjectFault>
     requires { is_ordered (value_view value.now) ≡ true }
-    ensures { Gives (λ s. s) result (if_ok (read_fields_v1 (shape schema.now) (data_of (value_view value.now)))) }
+    ensures { Returns (λ s. s) result (if_ok (read_fields_v1 (shape schema.now) (data_of (value_view value.now)))) }
 {
     match FieldSet::from_borrowed(alloc, schema, value) {
         Ok(paths) => Ok(paths),
@@ -82,7 +82,7 @@ fn read_set<'a>(
     members: &[(&'a str, Value<'a>)],
 ) -> Result<FieldSet, ObjectFault>
     requires { are_ordered (members_view members.now) ≡ true }
-    ensures { Gives (λ s. s) result (set_in (shape schema.now) (data_in members.now)) }
+    ensures { Returns (λ s. s) result (set_in (shape schema.now) (data_in members.now)) }
 {
     match member(members, "fieldsV1") {
         Some(value) => read_fields_v1(alloc, schema, value),
@@ -92,7 +92,7 @@ fn read_set<'a>(
 
 fn read_entry(alloc: Global, schema: &Schema, value: &Value<'_>) -> Result<Entry, ObjectFault>
     requires { is_ordered (value_view value.now) ≡ true }
-    ensures { Gives pair result (entry_in (shape schema.now) (data_of (value_view value.now))) }
+    ensures { Returns pair result (entry_in (shape schema.now) (data_of (value_view value.now))) }
 {
     let Some(members) = as_object(value) else {
         return Err(ObjectFault::NotCanonical);
@@ -108,7 +108,7 @@ fn read_entries(
     values: &[Value<'_>],
 ) -> Result<Vec<Entry>, ObjectFault>
     requires { items_are_ordered (items_view values.now) ≡ true }
-    ensures { Gives (λ v. pairs v.items) result (entries_in (shape schema.now) (items_data (items_view values.now))) }
+    ensures { Returns (λ v. pairs v.items) result (entries_in (shape schema.now) (items_data (items_view values.now))) }
 {
     let mut entries = Vec::new(alloc);
     for value in values {
@@ -125,7 +125,7 @@ fn entries_in<'a>(
     metadata: &[(&'a str, Value<'a>)],
 ) -> Result<Vec<Entry>, ObjectFault>
     requires { are_ordered (members_view metadata.now) ≡ true }
-    ensures { Gives (λ v. pairs v.items) result (entries_listed (shape schema.now) (get_member (codes "managedFields") (data_in metadata.now))) }
+    ensures { Returns (λ v. pairs v.items) result (entries_listed (shape schema.now) (get_member (codes "managedFields") (data_in metadata.now))) }
 {
     let Some(listed) = member(metadata, "managedFields") else {
         return Ok(Vec::new(alloc));
@@ -143,7 +143,7 @@ pub(crate) fn read_owners<'a>(
     metadata: &[(&'a str, Value<'a>)],
 ) -> Result<Managers, ObjectFault>
     requires { are_ordered (members_view metadata.now) ≡ true }
-    ensures { Gives (λ w. w) result (owners_in (shape schema.now) (data_in metadata.now)) }
+    ensures { Returns (λ w. w) result (owners_in (shape schema.now) (data_in metadata.now)) }
 {
     let entries = entries_in(alloc, schema, metadata)?;
     match Managers::with_entries(entries) {

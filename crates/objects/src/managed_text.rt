@@ -6,7 +6,7 @@ ghost use Rattle.fieldset.specs.FieldsV1.{fields_v1_of};
 ghost use Rattle.json_texts.specs.Writing.{AppendsMembers, with_text};
 ghost use Rattle.schema.specs.Shape.{shape};
 ghost use Rattle.objects.specs.Appended.{with_items};
-ghost use Rattle.objects.specs.EntryTexts.{then_filled, then_front, then_manager};
+ghost use Rattle.objects.specs.EntryTexts.{then_filled, then_prefix, then_manager};
 ghost use Rattle.objects.specs.Managers.{manager_view, pairs};
 ghost use Rattle.objects.specs.ObjectText.{entry_items, entry_value};
 
@@ -31,14 +31,14 @@ pub(crate) fn write_string(
 }
 
 /// Writes an entry's members up to its FieldsV1 value.
-fn write_front(
+fn write_prefix(
     out: &mut TextWriter,
     alloc: Global,
     schema: &Schema,
     api_version: &str,
     paths: &FieldSet,
 ) -> Result<(), AllocError>
-    ensures { OnOk result (AppendsMembers (then_front api_version.now (fields_v1_of (shape schema.now) paths.now)) out.old out.new) }
+    ensures { OnOk result (AppendsMembers (then_prefix api_version.now (fields_v1_of (shape schema.now) paths.now)) out.old out.new) }
 {
     write_string(out, alloc, "apiVersion", api_version)?;
     write_string(out, alloc, "fieldsType", "FieldsV1")?;
@@ -80,7 +80,7 @@ fn write_entry(
     ensures { OnOk result (out.new ≡ with_text (compact_text (entry_value (shape schema.now) api_version.now (manager_view entry.now.manager) entry.now.paths)) out.old) }
 {
     out.begin_object(alloc)?;
-    write_front(out, alloc, schema, api_version, &entry.paths)?;
+    write_prefix(out, alloc, schema, api_version, &entry.paths)?;
     write_manager(out, alloc, &entry.manager)?;
     out.end_object()
 }

@@ -106,27 +106,27 @@ fn less_others(
 fn carried_paths(
     owned: &FieldSet,
     alloc: Global,
-    stands: &FieldSet,
+    present: &FieldSet,
     new: &FieldSet,
 ) -> Result<FieldSet, AllocError>
-    ensures { IfOk result (λ s. s ≡ carried_paths stands.now new.now owned.now) }
+    ensures { IfOk result (λ s. s ≡ carried_paths present.now new.now owned.now) }
 {
     let mine = new.minus(alloc, &new.clear_of(alloc, owned)?)?;
-    owned.common(alloc, stands)?.union(alloc, &mine)
+    owned.common(alloc, present)?.union(alloc, &mine)
 }
 
 /// All entries, each with what its manager owns then; one that is empty is removed.
 fn carried_entries(
     entries: &[Entry],
     alloc: Global,
-    stands: &FieldSet,
+    present: &FieldSet,
     new: &FieldSet,
 ) -> Result<Vec<Entry>, AllocError>
-    ensures { IfOk result (λ v. pairs v.items ≡ carried_entries stands.now new.now (pairs entries.now)) }
+    ensures { IfOk result (λ v. pairs v.items ≡ carried_entries present.now new.now (pairs entries.now)) }
 {
     let mut carried = Vec::new(alloc);
     for entry in entries {
-        let paths = carried_paths(&entry.paths, alloc, stands, new)?;
+        let paths = carried_paths(&entry.paths, alloc, present, new)?;
         if !paths.is_empty() {
             carried.push(Entry {
                 manager: entry.manager.try_copy()?,
@@ -218,17 +218,17 @@ impl Managers {
         Ok(Managers { entries })
     }
 
-    /// The owners once new paths stand in the place of what was below them; `stands` has all paths that stand then.
+    /// The owners once new paths stand in the place of what was below them; `present` has all paths that stand then.
     /// Who owned a path at or below a new one owns the new one.
     pub fn carried(
         &self,
         alloc: Global,
-        stands: &FieldSet,
+        present: &FieldSet,
         new: &FieldSet,
     ) -> Result<Managers, AllocError>
-        ensures { IfOk result (λ w. w ≡ carried_owners stands.now new.now self.now) }
+        ensures { IfOk result (λ w. w ≡ carried_owners present.now new.now self.now) }
     {
-        let entries = carried_entries(&self.entries, alloc, stands, new)?;
+        let entries = carried_entries(&self.entries, alloc, present, new)?;
         Ok(Managers { entries })
     }
 }

@@ -7,9 +7,9 @@ ghost use Rattle.schema.specs.ObjectShape.{IsObjectShape};
 ghost use Rattle.schema.specs.Shape.{shape};
 ghost use Rattle.typed.specs.Reading.{content_of};
 ghost use Rattle.objects.specs.State.{State};
-ghost use Rattle.objects.specs.Placed.{OwnedStand};
+ghost use Rattle.objects.specs.WellTyped.{OwnedArePresent};
 ghost use Rattle.objects.specs.Managers.{pairs};
-ghost use Rattle.objects.specs.Parts.{Gives, all_within, if_read, parts_in};
+ghost use Rattle.objects.specs.Parts.{Returns, all_within, if_read, parts_in};
 ghost use Rattle.objects.specs.ReadBack.{IsReadBack};
 ghost use Rattle.objects.specs.Views.{identity_of, state_of};
 ghost use Rattle.pathmap.specs.Contents.{dom};
@@ -32,7 +32,7 @@ fn read_value<'a>(
     text: &'a str,
     scratch: &'a mut Scratch,
 ) -> Result<Value<'a>, ObjectFault>
-    ensures value { Gives (λ v. data_of (value_view v)) result (in_order text.now) }
+    ensures value { Returns (λ v. data_of (value_view v)) result (in_order text.now) }
     ensures ordered { IfOk result (λ v. is_ordered (value_view v) ≡ true) }
 {
     match json_texts::read(alloc, text, scratch)? {
@@ -43,7 +43,7 @@ fn read_value<'a>(
 
 fn read_content(alloc: Global, schema: &Schema, value: &Value<'_>) -> Result<Tree, ObjectFault>
     requires { is_ordered (value_view value.now) ≡ true }
-    ensures { Gives (λ t. t) result (if_read (content_of (shape schema.now) (data_of (value_view value.now)))) }
+    ensures { Returns (λ t. t) result (if_read (content_of (shape schema.now) (data_of (value_view value.now)))) }
 {
     match Tree::read_borrowed(schema, alloc, value) {
         Ok(tree) => Ok(tree),
@@ -55,7 +55,7 @@ fn read_content(alloc: Global, schema: &Schema, value: &Value<'_>) -> Result<Tre
 /// What stands in an object's value and who owns it, and its version.
 fn read_parts(alloc: Global, schema: &Schema, value: Value<'_>) -> Result<(Owned, u64), ObjectFault>
     requires { is_ordered (value_view value) ≡ true }
-    ensures { Gives {Y = State × ℕ} (λ o. (state_of o.0, o.1)) result (parts_in (shape schema.now) (data_of (value_view value.entry))) }
+    ensures { Returns {Y = State × ℕ} (λ o. (state_of o.0, o.1)) result (parts_in (shape schema.now) (data_of (value_view value.entry))) }
 {
     let Some((others, metadata)) = split(value) else {
         return Err(ObjectFault::NotCanonical);
@@ -95,7 +95,7 @@ impl Owned {
 
     /// Whether each owned path stands in the content.
     fn owned_stand(&self) -> bool
-        ensures { IsTrue result ↔ OwnedStand (state_of self.now) }
+        ensures { IsTrue result ↔ OwnedArePresent (state_of self.now) }
     {
         all_stand_in(&self.tree, self.managers.entries())
     }

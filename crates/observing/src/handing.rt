@@ -1,19 +1,19 @@
 //! Hands events to a hub, and tells an observer of them. Without one, `httpedge` does the same.
 
 ghost use Rattle.std.specs.Prelude.{◌≡◌, true};
-ghost use Rattle.httpedge.specs.HubSeen.{Happened, IsIn, Tells, TellsFile, event_of, outcome_of};
-ghost use Rattle.httpedge.specs.Runs.{Follows, Happening};
+ghost use Rattle.httpedge.specs.HubViews.{IsActionOf, HubRepresents, ReportsOutcome, ReportsFile, event_of, outcome_of};
+ghost use Rattle.httpedge.specs.Runs.{Follows, Action};
 ghost use Rattle.httpedge.specs.Steps.{State};
-ghost use Rattle.httpedge.specs.Streams.{Compacts, Hands, IsDone, MovesBy};
+ghost use Rattle.httpedge.specs.StreamViews.{Compacts, Hands, IsDone, MovesBy};
 
 use crate::observer::Observer;
 use httpedge::{Event, Hub, HubFault};
 
 /// The hub handles an event, as `Hub::on` says.
 pub fn on<O: Observer>(hub: &mut Hub, observer: &mut O, event: &Event) -> Result<(), HubFault>
-    ensures follows { (s : State) → IsIn hub.old s → (h : Happening) × (t : State) × Happened (event_of event.now) (outcome_of result) h × Follows s h t × IsIn hub.new t }
-    ensures refused { (s : State) → IsIn hub.old s → Tells s (event_of event.now) (outcome_of result) }
-    ensures told { TellsFile (event_of event.now) result }
+    ensures follows { (s : State) → HubRepresents hub.old s → (h : Action) × (t : State) × IsActionOf (event_of event.now) (outcome_of result) h × Follows s h t × HubRepresents hub.new t }
+    ensures refused { (s : State) → HubRepresents hub.old s → ReportsOutcome s (event_of event.now) (outcome_of result) }
+    ensures sent { ReportsFile (event_of event.now) result }
 {
     observer.sees(hub, event);
     let done = hub.on(event);

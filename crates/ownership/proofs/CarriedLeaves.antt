@@ -7,30 +7,30 @@ use Rattle.std.specs.Str.{bytes_eq}
 use Rattle.std.proofs.lemmas.Bool.{and_parts}
 use Rattle.std.proofs.lemmas.Slice.Eq.{bytes_eq-Decides}
 use Rattle.fieldpath.specs.Paths.{PathTexts}
-use Rattle.pathmap.specs.Beside.{has_at_or_below, is_front}
+use Rattle.pathmap.specs.Beside.{has_at_or_below, is_prefix}
 use Rattle.schema.specs.Place.{place_of}
 use Rattle.schema.specs.Shape.{Shape}
 use Rattle.schema.specs.declared.place.Place.{Place}
 use Rattle.schema.specs.declared.place.Place.TheVariants.{Leaf, SetItem, MapItem}
 use Rattle.typed.specs.Carried.{IsCarried, IsNewLeaf}
-use Rattle.typed.specs.Fitting.{Stands}
+use Rattle.typed.specs.Fitting.{IsPresent}
 use Rattle.objects.specs.Owners.{Manager, owned_by}
-use Rattle.objects.specs.Placed.{Owns}
+use Rattle.objects.specs.WellTyped.{Owns}
 use Rattle.objects.specs.State.{State}
 use Rattle.ownership.specs.Carry.{LeavesOwnedStill, LeavesPass, NobodyOwned, OthersStay}
 use Rattle.ownership.specs.Keeping.{StoodUnowned, is_end}
 use Rattle.ownership.proofs.Keeping.{one_below, some_below}
 use Rattle.ownership.proofs.Leaves.{is_owned, owned_or_not, owned_paths, owner_of}
 
-pub front_of : (p q : PathTexts) → is_front p (p ++ q) ≡ true
-front_of [] q = refl
-front_of (e ∷ p) q = both_true ((bytes_eq-Decides e e).1 refl) (front_of p q)
+pub prefix_of : (p q : PathTexts) → is_prefix p (p ++ q) ≡ true
+prefix_of [] q = refl
+prefix_of (e ∷ p) q = both_true ((bytes_eq-Decides e e).1 refl) (prefix_of p q)
 
-rest_of : (p r : PathTexts) → is_front p r ≡ true → (q : PathTexts) × (r ≡ p ++ q)
-rest_of [] r front = (r, refl)
-rest_of (e ∷ p) [] front = absurd (true≢false (sym front))
-rest_of (e ∷ p) (f ∷ r) front =
-    let parts = and_parts (bytes_eq e f) (is_front p r) front in
+rest_of : (p r : PathTexts) → is_prefix p r ≡ true → (q : PathTexts) × (r ≡ p ++ q)
+rest_of [] r prefix = (r, refl)
+rest_of (e ∷ p) [] prefix = absurd (true≢false (sym prefix))
+rest_of (e ∷ p) (f ∷ r) prefix =
+    let parts = and_parts (bytes_eq e f) (is_prefix p r) prefix in
     let rest = rest_of p r parts.1 in
     (rest.0, ap₂ (λ x xs. x ∷ xs) (sym ((bytes_eq-Decides e f).0 parts.0)) rest.1)
 
@@ -45,14 +45,14 @@ module _ (s t : Shape) (old new : State) (carried : IsCarried s t old.content ne
             let owner = owner_of old inner.0 inner.1 in
             let rest = rest_of p inner.0 inner.2 in
             inl (owner.0, pass owner.0 p rest.0 is (ap (λ r. set.contains (owned_by old.owners owner.0) r) (sym rest.1) ∙ owner.1))
-        by_test false h = inr (is, (λ k q owns. true≢false (sym (one_below (owned_paths old) p (p ++ q) (is_owned old k (p ++ q) owns) (front_of p q)) ∙ h)))
+        by_test false h = inr (is, (λ k q owns. true≢false (sym (one_below (owned_paths old) p (p ++ q) (is_owned old k (p ++ q) owns) (prefix_of p q)) ∙ h)))
 
     -- what stands and is no new leaf is below none
-    is_apart : (IsNewLeaf s t p → ⊥) → Stands new.content p → (above rest : PathTexts) → IsNewLeaf s t above → p ≡ above ++ rest → ⊥
+    is_apart : (IsNewLeaf s t p → ⊥) → IsPresent new.content p → (above rest : PathTexts) → IsNewLeaf s t above → p ≡ above ++ rest → ⊥
     is_apart other there above [] is same = other (subst (IsNewLeaf s t) (sym (same ∙ append-nil above)) is)
     is_apart other there above (e ∷ q) is same = true≢false (sym there ∙ ap (λ r. is_some (fin.get new.content r)) same ∙ ap is_some (carried.below above e q is))
 
-    elsewhere : (IsNewLeaf s t p → ⊥) → Stands new.content p → ((k : Manager) × Owns new k p) ⊎ StoodUnowned old new p
+    elsewhere : (IsNewLeaf s t p → ⊥) → IsPresent new.content p → ((k : Manager) × Owns new k p) ⊎ StoodUnowned old new p
     elsewhere other there = by_owned (owned_or_not old p)
       where
         by_owned : ((k : Manager) × Owns old k p) ⊎ ((k : Manager) → ¬ (Owns old k p)) → ((k : Manager) × Owns new k p) ⊎ StoodUnowned old new p

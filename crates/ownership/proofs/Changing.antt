@@ -11,7 +11,7 @@ use Rattle.pathmap.proofs.Sets.{same_paths, contains-changed, contains-dom}
 use Rattle.schema.specs.Shape.{Shape}
 use Rattle.objects.specs.Owners.{Manager, Owners, is_same, owned_by, taken_over}
 use Rattle.objects.specs.State.{State}
-use Rattle.objects.specs.Placed.{Stands, Owns, OwnedStand}
+use Rattle.objects.specs.WellTyped.{IsPresent, Owns, OwnedArePresent}
 use Rattle.ownership.specs.Keeping.{LeavesOwned, StoodUnowned}
 use Rattle.ownership.specs.Update.{removed, updated}
 use Rattle.objects.proofs.Within.{left_true, right_true, both_true, same_manager-is}
@@ -79,21 +79,21 @@ module _ (live : State) (new : Content) (m : Manager) where
   unfolding removed
   contains-gone p = set.contains-difference path_cmp_total (dom live.content) (dom new) p ∙ ap₂ (λ a b. a && not b) (contains-dom live.content p) (contains-dom new p)
 
-  stays_there : (p : PathTexts) → Stands live.content p → set.contains gone p ≡ false → Stands new p
+  stays_there : (p : PathTexts) → IsPresent live.content p → set.contains gone p ≡ false → IsPresent new p
   stays_there p there free = and_not (is_some (fin.get live.content p)) (is_some (fin.get new p)) (sym (contains-gone p) ∙ free) there
 
   pub contains-mine : (p : PathTexts) → set.contains mine p ≡ ((set.contains (owned_by live.owners m) p && not (set.contains gone p)) || set.contains changes p)
   contains-mine p =
       set.contains-union path_cmp_total (set.difference (owned_by live.owners m) gone) changes p ∙ ap (λ b. b || set.contains changes p) (set.contains-difference path_cmp_total (owned_by live.owners m) gone p)
 
-  mine_stands : OwnedStand live → (p : PathTexts) → set.contains mine p ≡ true → Stands new p
+  mine_stands : OwnedArePresent live → (p : PathTexts) → set.contains mine p ≡ true → IsPresent new p
   mine_stands before p is = by_change (set.contains changes p) refl (sym (contains-mine p) ∙ is)
     where
       or_false : (a : Bool) → (a || false) ≡ true → a ≡ true
       or_false true e = refl
       or_false false e = e
 
-      by_change : (b : Bool) → set.contains changes p ≡ b → ((set.contains (owned_by live.owners m) p && not (set.contains gone p)) || set.contains changes p) ≡ true → Stands new p
+      by_change : (b : Bool) → set.contains changes p ≡ b → ((set.contains (owned_by live.owners m) p && not (set.contains gone p)) || set.contains changes p) ≡ true → IsPresent new p
       by_change true is h = left_true (is_some (fin.get new p)) (not (same_value (fin.get new p) (fin.get live.content p))) (sym (contains-changed new live.content p) ∙ is)
       by_change false is h =
           let kept = or_false (set.contains (owned_by live.owners m) p && not (set.contains gone p)) (ap (λ b. (set.contains (owned_by live.owners m) p && not (set.contains gone p)) || b) (sym is) ∙ h) in
@@ -106,7 +106,7 @@ module _ (live : State) (new : Content) (m : Manager) where
       by_or true b e = absurd (true≢false e)
       by_or false b e = e
 
-  owned_stand_by : OwnedStand live → (k : Manager) (p : PathTexts) (b : Bool) → is_same m k ≡ b → Owns (updated live new m) k p → Stands new p
+  owned_stand_by : OwnedArePresent live → (k : Manager) (p : PathTexts) (b : Bool) → is_same m k ≡ b → Owns (updated live new m) k p → IsPresent new p
   unfolding updated
   owned_stand_by before k p true same is =
       mine_stands before p (ap (λ s. set.contains s p) (sym (owned_mine live.owners m lost mine) ∙ ap (owned_by (taken_over live.owners m lost mine)) (same_manager-is m k same)) ∙ is)
@@ -114,7 +114,7 @@ module _ (live : State) (new : Content) (m : Manager) where
       let both = sym (set.contains-difference path_cmp_total (owned_by live.owners k) lost p) ∙ ap (λ s. set.contains s p) (sym (owned_other live.owners m lost mine k other)) ∙ is in
       stays_there p (before k p (left_true (set.contains (owned_by live.owners k) p) _ both)) (not_lost p (not_true (set.contains lost p) (right_true (set.contains (owned_by live.owners k) p) _ both)))
 
-  pub updated_stand : OwnedStand live → OwnedStand (updated live new m)
+  pub updated_stand : OwnedArePresent live → OwnedArePresent (updated live new m)
   unfolding updated
   updated_stand before k p is = owned_stand_by before k p (is_same m k) refl is
 
@@ -154,8 +154,8 @@ module _ (live : State) (new : Content) (m : Manager) where
 
 -- ---- of the state that an update answers
 module _ (live : State) (new : Content) (m : Manager) (after : State) (is : after ≡ updated live new m) where
-  pub update_stands : OwnedStand live → OwnedStand after
-  update_stands before = subst OwnedStand (sym is) (updated_stand live new m before)
+  pub update_stands : OwnedArePresent live → OwnedArePresent after
+  update_stands before = subst OwnedArePresent (sym is) (updated_stand live new m before)
 
   pub update_leaves : (s : Shape) → LeavesOwned s live after
   update_leaves s = subst (LeavesOwned s live) (sym is) (updated_leaves live new m s)

@@ -4,7 +4,7 @@ use Rattle.std.specs.Cmp.{both_ways}
 use Rattle.std.specs.FinSet as set
 use Rattle.fieldpath.specs.Paths.{PathTexts}
 use Rattle.pathmap.specs.Contents.{PathSet}
-use Rattle.pathmap.specs.Beside.{is_front, has_at_or_below, clear_of}
+use Rattle.pathmap.specs.Beside.{is_prefix, has_at_or_below, clear_of}
 use Rattle.pathmap.proofs.Contents.{path_cmp_total}
 use Rattle.pathmap.proofs.Sets.{same_paths, contains-clear_of}
 use Rattle.objects.specs.Owners.{Manager}
@@ -34,9 +34,9 @@ module _ (s t : PathSet) (p : PathTexts) where
   below_either false true i j h = below_second j
   below_either false false i j h = absurd (true≢false (sym h))
 
-  of_either : (q : PathTexts) (a : Bool) → set.contains s q ≡ a → (a || set.contains t q) ≡ true → is_front p q ≡ true → (has_at_or_below s p || has_at_or_below t p) ≡ true
-  of_either q true is h front = first_or _ _ (one_below s p q is front)
-  of_either q false is h front = second_or _ _ (one_below t p q h front)
+  of_either : (q : PathTexts) (a : Bool) → set.contains s q ≡ a → (a || set.contains t q) ≡ true → is_prefix p q ≡ true → (has_at_or_below s p || has_at_or_below t p) ≡ true
+  of_either q true is h prefix = first_or _ _ (one_below s p q is prefix)
+  of_either q false is h prefix = second_or _ _ (one_below t p q h prefix)
 
   below_union : has_at_or_below (set.union s t) p ≡ (has_at_or_below s p || has_at_or_below t p)
   below_union = both_ways (has_at_or_below (set.union s t) p) (has_at_or_below s p || has_at_or_below t p)

@@ -6,7 +6,7 @@ use Rattle.std.specs.Str.{bytes_eq}
 use Rattle.std.specs.Cmp.Lexicographic.{bytes_decides}
 use Rattle.fieldpath.specs.Elements.{read_element, field_name}
 use Rattle.fieldpath.specs.Paths.{PathTexts}
-use Rattle.pathmap.specs.Beside.{is_front}
+use Rattle.pathmap.specs.Beside.{is_prefix}
 use Rattle.schema.specs.Place.{at_end, fits, fit_keys, set_item, list_item, by_field, item_or, place_of, place_in_list, place_in_field}
 use Rattle.schema.specs.Shape.{atomic, set, keyed, Shape, text, whole, truth, struct_of, map_of, list_of, Fields, no_fields, field}
 use Rattle.schema.specs.declared.place.Place.{Place}
@@ -17,40 +17,40 @@ use Rattle.objects.proofs.Within.{left_true, right_true}
 abbrev Places : Type 0
 Places = PathTexts → Option Place
 
--- of two paths with a place, one at an end and a front of the other, both are one
+-- of two paths with a place, one at an end and a prefix of the other, both are one
 abbrev pub Ends : Places → Type 0
-Ends place = (p r : PathTexts) → is_end (place p) ≡ true → is_some (place r) ≡ true → is_front p r ≡ true → p ≡ r
+Ends place = (p r : PathTexts) → is_end (place p) ≡ true → is_some (place r) ≡ true → is_prefix p r ≡ true → p ≡ r
 
 false_true : {A : Type 0} → false ≡ true → A
 false_true e = absurd (true≢false (sym e))
 
 at_end_ends : (place : Place) → Ends (λ p. at_end p place)
-at_end_ends place [] [] end there front = refl
-at_end_ends place [] (g ∷ r) end there front = false_true there
-at_end_ends place (e ∷ p) r end there front = false_true end
+at_end_ends place [] [] end there prefix = refl
+at_end_ends place [] (g ∷ r) end there prefix = false_true there
+at_end_ends place (e ∷ p) r end there prefix = false_true end
 
 -- a path that begins with an element of some name
 first_ends : {A : Type 0} (name : List ℕ → Option A) (inner : A → Places) → ((a : A) → Ends (inner a)) → (place : Places) → (place [] ≡ None)
     → ((e : List ℕ) (p : PathTexts) → place (e ∷ p) ≡ option_and_then (λ a. inner a p) (name e)) → Ends place
-first_ends name inner below place none next [] r end there front = false_true (sym (ap is_end none) ∙ end)
-first_ends name inner below place none next (e ∷ p) [] end there front = false_true front
-first_ends {A = A} name inner below place none next (e ∷ p) (g ∷ r) end there front = by_name (name e) refl
+first_ends name inner below place none next [] r end there prefix = false_true (sym (ap is_end none) ∙ end)
+first_ends name inner below place none next (e ∷ p) [] end there prefix = false_true prefix
+first_ends {A = A} name inner below place none next (e ∷ p) (g ∷ r) end there prefix = by_name (name e) refl
   where
     alike : e ≡ g
-    alike = (bytes_decides e g).0 (left_true (bytes_eq e g) (is_front p r) front)
+    alike = (bytes_decides e g).0 (left_true (bytes_eq e g) (is_prefix p r) prefix)
 
     by_name : (o : Option A) → name e ≡ o → e ∷ p ≡ g ∷ r
     by_name None is = false_true (sym (ap is_end (next e p ∙ ap (option_and_then (λ a. inner a p)) is)) ∙ end)
     by_name (Some a) is =
         ap₂ (λ x xs. x ∷ xs) alike (below a p r (sym (ap is_end (next e p ∙ ap (option_and_then (λ x. inner x p)) is)) ∙ end)
-        (sym (ap is_some (next g r ∙ ap (λ x. option_and_then (λ y. inner y r) (name x)) (sym alike) ∙ ap (option_and_then (λ x. inner x r)) is)) ∙ there) (right_true (bytes_eq e g) (is_front p r) front))
+        (sym (ap is_some (next g r ∙ ap (λ x. option_and_then (λ y. inner y r) (name x)) (sym alike) ∙ ap (option_and_then (λ x. inner x r)) is)) ∙ there) (right_true (bytes_eq e g) (is_prefix p r) prefix))
 
 where_ends : (b : Bool) (place : Places) → Ends place → Ends (λ q. cond b (place q) None)
 where_ends true place h = h
-where_ends false place h = λ p r end there front. false_true end
+where_ends false place h = λ p r end there prefix. false_true end
 
 unless_ends : (b : Bool) (place : Places) → Ends place → Ends (λ q. cond b None (place q))
-unless_ends true place h = λ p r end there front. false_true end
+unless_ends true place h = λ p r end there prefix. false_true end
 unless_ends false place h = h
 
 either_ends : (b : Bool) (one other : Places) → Ends one → Ends other → Ends (λ q. cond b (one q) (other q))
@@ -58,9 +58,9 @@ either_ends true one other h k = h
 either_ends false one other h k = k
 
 item_ends : (below : Places) → Ends below → Ends (λ q. item_or q (below q))
-item_ends below h [] r end there front = false_true end
-item_ends below h (e ∷ p) [] end there front = false_true front
-item_ends below h (e ∷ p) (g ∷ r) end there front = h (e ∷ p) (g ∷ r) end there front
+item_ends below h [] r end there prefix = false_true end
+item_ends below h (e ∷ p) [] end there prefix = false_true prefix
+item_ends below h (e ∷ p) (g ∷ r) end there prefix = h (e ∷ p) (g ∷ r) end there prefix
 
 by_field_ends : (inner : List ℕ → Places) → ((f : List ℕ) → Ends (inner f)) → Ends (by_field inner)
 by_field_ends inner h = first_ends field_name inner h (by_field inner) refl (λ e p. refl)
@@ -83,7 +83,7 @@ list_ends names all b h =
     (λ ks. where_ends (fit_keys names all ks) (λ q. item_or q (beside names all q)) (item_ends (beside names all) below_ends)) (place_in_list names (struct_of all b)) refl (λ e p. refl)
 
 nowhere_ends : (place : Places) → ((p : PathTexts) → place p ≡ None) → Ends place
-nowhere_ends place none p r end there front = false_true (sym (ap is_end (none p)) ∙ end)
+nowhere_ends place none p r end there prefix = false_true (sym (ap is_end (none p)) ∙ end)
 
 mutual
   pub ends : (s : Shape) → Ends (place_of s)

@@ -8,8 +8,8 @@ use Rattle.std.specs.Option.{unwrap_or}
 use Rattle.std.specs.Ordering.{eq_by_cmp}
 use Rattle.std.specs.Cmp.Lexicographic.{bytes_decides}
 use Rattle.fieldpath.specs.Paths.{PathTexts, path_cmp}
-use Rattle.pathmap.specs.Contents.{Standing, Content, PathSet, nothing, over, dom, marked, in_order}
-use Rattle.pathmap.specs.Beside.{same_value, is_front, has_at_or_below, has_at_or_above, changed, clear_of, without}
+use Rattle.pathmap.specs.Contents.{LeafValue, Content, PathSet, nothing, over, dom, marked, in_order}
+use Rattle.pathmap.specs.Beside.{same_value, is_prefix, has_at_or_below, has_at_or_above, changed, clear_of, without}
 use Rattle.pathmap.proofs.Contents.{path_cmp_total, same, either, get-over}
 use Rattle.pathmap.proofs.Order.{dom-marked, is_marked, in_order-nothing}
 use Rattle.pathmap.proofs.Cutting.{nothing-above}
@@ -17,7 +17,7 @@ use Rattle.pathmap.proofs.Sets.{dom-nothing, same_paths, contains-dom, contains-
 use Rattle.objects.specs.Owners.{Manager, is_same, owned_by, others, taken_over, manager_cmp}
 use Rattle.objects.specs.State.{State}
 use Rattle.ownership.specs.Apply.{Conflict, conflicts_with, conflicts, all_paths, dropped, applied, is_refused}
-use Rattle.objects.specs.Placed.{Stands, Owns, OwnedStand}
+use Rattle.objects.specs.WellTyped.{IsPresent, Owns, OwnedArePresent}
 use Rattle.ownership.specs.Keeping.{OthersKeep, IsSettled}
 use Rattle.objects.proofs.Within.{left_true, right_true, both_true, none_left, same_manager-is}
 use Rattle.ownership.proofs.Sameness.{same_value-is, same_value-itself}
@@ -52,25 +52,25 @@ some_in p s h =
 one_in : (p : PathTexts → Bool) (s : PathSet) (q : PathTexts) → set.contains s q ≡ true → p q ≡ true → list_any p (set.items s) ≡ true
 one_in p s q is h = ap (λ t. list_any p (set.items t)) (sym (dom-marked s)) ∙ passes_one p (marked s) q (is_marked s q ∙ is) h
 
-pub one_below : (s : PathSet) (p q : PathTexts) → set.contains s q ≡ true → is_front p q ≡ true → has_at_or_below s p ≡ true
+pub one_below : (s : PathSet) (p q : PathTexts) → set.contains s q ≡ true → is_prefix p q ≡ true → has_at_or_below s p ≡ true
 unfolding has_at_or_below
-one_below s p q is front = one_in (is_front p) s q is front
+one_below s p q is prefix = one_in (is_prefix p) s q is prefix
 
-pub some_below : (s : PathSet) (p : PathTexts) → has_at_or_below s p ≡ true → (q : PathTexts) × (set.contains s q ≡ true) × (is_front p q ≡ true)
+pub some_below : (s : PathSet) (p : PathTexts) → has_at_or_below s p ≡ true → (q : PathTexts) × (set.contains s q ≡ true) × (is_prefix p q ≡ true)
 unfolding has_at_or_below
-some_below s p h = some_in (is_front p) s h
+some_below s p h = some_in (is_prefix p) s h
 
-pub one_above : (s : PathSet) (p q : PathTexts) → set.contains s p ≡ true → is_front p q ≡ true → has_at_or_above s q ≡ true
+pub one_above : (s : PathSet) (p q : PathTexts) → set.contains s p ≡ true → is_prefix p q ≡ true → has_at_or_above s q ≡ true
 unfolding has_at_or_above
-one_above s p q is front = one_in (λ x. is_front x q) s p is front
+one_above s p q is prefix = one_in (λ x. is_prefix x q) s p is prefix
 
-pub some_above : (s : PathSet) (q : PathTexts) → has_at_or_above s q ≡ true → (p : PathTexts) × (set.contains s p ≡ true) × (is_front p q ≡ true)
+pub some_above : (s : PathSet) (q : PathTexts) → has_at_or_above s q ≡ true → (p : PathTexts) × (set.contains s p ≡ true) × (is_prefix p q ≡ true)
 unfolding has_at_or_above
-some_above s q h = some_in (λ p. is_front p q) s h
+some_above s q h = some_in (λ p. is_prefix p q) s h
 
-pub front_itself : (p : PathTexts) → is_front p p ≡ true
-front_itself [] = refl
-front_itself (f ∷ p) = both_true _ _ ((bytes_decides f f).1 refl) (front_itself p)
+pub prefix_itself : (p : PathTexts) → is_prefix p p ≡ true
+prefix_itself [] = refl
+prefix_itself (f ∷ p) = both_true _ _ ((bytes_decides f f).1 refl) (prefix_itself p)
 
 both_parts : (state : State) (body : Content) (m : Manager)
     → record { content = without (over body state.content) (dropped state body m); owners = taken_over state.owners m (changed body state.content) (dom body) } ≡ applied state body m
@@ -140,7 +140,7 @@ module _ (live : State) (body : Content) (m : Manager) where
   pub stays_body : (p : PathTexts) → is_some (fin.get body p) ≡ true → fin.get (applied live body m).content p ≡ fin.get body p
   stays_body p is = stays p (all_start (dom body) (others live.owners m) p (contains-dom body p ∙ is)) ∙ first (fin.get body p) is
     where
-      first : (o : Option Standing) → is_some o ≡ true → either o (fin.get live.content p) ≡ o
+      first : (o : Option LeafValue) → is_some o ≡ true → either o (fin.get live.content p) ≡ o
       first None e = absurd (true≢false (sym e))
       first (Some v) e = refl
 
@@ -177,7 +177,7 @@ module _ (live : State) (body : Content) (m : Manager) where
   unchanged_there : (p : PathTexts) → set.contains changes p ≡ false → either (fin.get body p) (fin.get live.content p) ≡ fin.get live.content p
   unchanged_there p h = by_value (fin.get body p) (fin.get live.content p) (sym (contains-changed body live.content p) ∙ h)
     where
-      by_value : (a b : Option Standing) → (is_some a && not (same_value a b)) ≡ false → either a b ≡ b
+      by_value : (a b : Option LeafValue) → (is_some a && not (same_value a b)) ≡ false → either a b ≡ b
       by_value None b e = refl
       by_value (Some v) b e = same_value-is (Some v) b (none_left (same_value (Some v) b) e)
 
@@ -195,7 +195,7 @@ module _ (live : State) (body : Content) (m : Manager) where
       let free = no_conflict changes (others live.owners m) k p (none_refused _ none) (ap (λ s. set.contains s p) (owned-others live body m k other) ∙ is) in
       (stays p (owned_in_all live body m k other p is) ∙ unchanged_there p free, still_owned k p other is free)
 
-  owned_stand_by : (k : Manager) (p : PathTexts) (b : Bool) → is_same m k ≡ b → OwnedStand live → Owns (applied live body m) k p → Stands (applied live body m).content p
+  owned_stand_by : (k : Manager) (p : PathTexts) (b : Bool) → is_same m k ≡ b → OwnedArePresent live → Owns (applied live body m) k p → IsPresent (applied live body m).content p
   unfolding applied
   owned_stand_by k p true same before is =
       let mine = sym (contains-dom body p) ∙ ap (λ s. set.contains s p) (sym (owned_mine live.owners m changes (dom body)) ∙ ap (owned_by (taken_over live.owners m changes (dom body))) (same_manager-is m k same)) ∙ is in
@@ -204,11 +204,11 @@ module _ (live : State) (body : Content) (m : Manager) where
       let owned = left_true (set.contains (owned_by live.owners k) p) _ (sym (set.contains-difference path_cmp_total (owned_by live.owners k) changes p) ∙ ap (λ s. set.contains s p) (sym (owned_other live.owners m changes (dom body) k other)) ∙ is) in
       ap is_some (stays p (owned_in_all live body m k other p owned)) ∙ some_either (fin.get body p) (fin.get live.content p) (before k p owned)
     where
-      some_either : (a b : Option Standing) → is_some b ≡ true → is_some (either a b) ≡ true
+      some_either : (a b : Option LeafValue) → is_some b ≡ true → is_some (either a b) ≡ true
       some_either None b e = e
       some_either (Some v) b e = refl
 
-  pub owned_stand : OwnedStand live → OwnedStand (applied live body m)
+  pub owned_stand : OwnedArePresent live → OwnedArePresent (applied live body m)
   owned_stand before k p is = owned_stand_by k p (is_same m k) refl before is
 
   -- ---- the same apply again
@@ -218,7 +218,7 @@ module _ (live : State) (body : Content) (m : Manager) where
   changed_none : (p : PathTexts) → set.contains (changed body after.content) p ≡ false
   changed_none p = contains-changed body after.content p ∙ by_value (fin.get body p) refl
     where
-      by_value : (o : Option Standing) → fin.get body p ≡ o → (is_some (fin.get body p) && not (same_value (fin.get body p) (fin.get after.content p))) ≡ false
+      by_value : (o : Option LeafValue) → fin.get body p ≡ o → (is_some (fin.get body p) && not (same_value (fin.get body p) (fin.get after.content p))) ≡ false
       by_value None is = ap (λ a. is_some a && not (same_value (fin.get body p) (fin.get after.content p))) is
       by_value (Some v) is =
           let there : is_some (fin.get body p) ≡ true = ap is_some is in
@@ -254,7 +254,7 @@ module _ (live : State) (body : Content) (m : Manager) where
   clear_none t has = same_paths (clear_of (dom body) t) set.empty (λ p. contains-clear_of (dom body) t p ∙ by_test p (set.contains (dom body) p) refl ∙ sym (set.contains-empty path_cmp p))
     where
       by_test : (p : PathTexts) (b : Bool) → set.contains (dom body) p ≡ b → (b && not (has_at_or_below t p)) ≡ false
-      by_test p true is = ap not (one_below t p p (has p is) (front_itself p))
+      by_test p true is = ap not (one_below t p p (has p is) (prefix_itself p))
       by_test p false is = refl
 
   owns_body : owned_by after.owners m ≡ dom body
@@ -268,7 +268,7 @@ module _ (live : State) (body : Content) (m : Manager) where
   again_over : over body after.content ≡ after.content
   again_over = same (over body after.content) after.content (λ p. get-over body after.content p ∙ by_value p (fin.get body p) refl)
     where
-      by_value : (p : PathTexts) (o : Option Standing) → fin.get body p ≡ o → either o (fin.get after.content p) ≡ fin.get after.content p
+      by_value : (p : PathTexts) (o : Option LeafValue) → fin.get body p ≡ o → either o (fin.get after.content p) ≡ fin.get after.content p
       by_value p None is = refl
       by_value p (Some v) is = sym is ∙ sym (stays_body p (ap is_some is))
 

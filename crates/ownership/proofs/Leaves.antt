@@ -8,8 +8,8 @@ use Rattle.std.specs.Cmp.{Equal-is, tied_itself}
 use Rattle.std.specs.Option.{unwrap_or}
 use Rattle.std.specs.Ordering.{eq_by_cmp, is_eq}
 use Rattle.fieldpath.specs.Paths.{PathTexts, path_cmp}
-use Rattle.pathmap.specs.Contents.{Standing, Content, PathSet, over, dom}
-use Rattle.pathmap.specs.Beside.{same_value, is_front, has_at_or_below, has_at_or_above, changed, clear_of}
+use Rattle.pathmap.specs.Contents.{LeafValue, Content, PathSet, over, dom}
+use Rattle.pathmap.specs.Beside.{same_value, is_prefix, has_at_or_below, has_at_or_above, changed, clear_of}
 use Rattle.pathmap.proofs.Contents.{path_cmp_total, either, get-over}
 use Rattle.pathmap.proofs.Sets.{contains-dom, contains-changed, contains-clear_of, get-without}
 use Rattle.schema.specs.Place.{place_of}
@@ -17,11 +17,11 @@ use Rattle.schema.specs.Shape.{Shape}
 use Rattle.objects.specs.Owners.{Manager, is_same, owned_by, others, manager_cmp}
 use Rattle.objects.specs.State.{State}
 use Rattle.ownership.specs.Apply.{all_paths, applied, dropped}
-use Rattle.objects.specs.Placed.{Owns, OwnedStand}
+use Rattle.objects.specs.WellTyped.{Owns, OwnedArePresent}
 use Rattle.ownership.specs.Keeping.{HasPlaces, LeavesOwned, StoodUnowned, is_end}
 use Rattle.ownership.proofs.Ends.{ends}
 use Rattle.objects.proofs.Entries.{Pairs, fst, snd}
-use Rattle.ownership.proofs.Keeping.{all_found, front_itself, some_below, one_above, still_owned}
+use Rattle.ownership.proofs.Keeping.{all_found, prefix_itself, some_below, one_above, still_owned}
 use Rattle.objects.proofs.Within.{same_manager-is}
 use Rattle.objects.proofs.Taking.{none_above, find-others, sorted-others, owned_mine}
 use Rattle.objects.proofs.Orders.{manager_total, manager_antisymmetric}
@@ -81,33 +81,33 @@ owned_or_not state p = by_test (set.contains (owned_paths state) p) refl
     by_test true is = inl (owner_of state p is)
     by_test false is = inr (λ k owns. true≢false (sym (is_owned state k p owns) ∙ is))
 
-module _ (live : State) (body : Content) (m : Manager) (s : Shape) (places : HasPlaces s live.content) (body_places : HasPlaces s body) (standing : OwnedStand live) (p : PathTexts)
+module _ (live : State) (body : Content) (m : Manager) (s : Shape) (places : HasPlaces s live.content) (body_places : HasPlaces s body) (leaf_value : OwnedArePresent live) (p : PathTexts)
     (end : is_end (place_of s p) ≡ true) (absent : fin.get body p ≡ None) where
   -- the manager's own leaf, at or below which there is a path that keeps it
-  taken : (r : PathTexts) → is_front p r ≡ true → set.contains (dom body) r ≡ true → ⊥
-  taken r front is =
+  taken : (r : PathTexts) → is_prefix p r ≡ true → set.contains (dom body) r ≡ true → ⊥
+  taken r prefix is =
       let there = sym (contains-dom body r) ∙ is in
-      let alike = ends s p r end (body_places r there) front in
+      let alike = ends s p r end (body_places r there) prefix in
       true≢false (sym there ∙ ap (λ q. is_some (fin.get body q)) (sym alike) ∙ ap is_some absent)
 
   unchanged_here : set.contains (changed body live.content) p ≡ false
   unchanged_here = contains-changed body live.content p ∙ ap (λ o. is_some o && not (same_value (fin.get body p) (fin.get live.content p))) absent
 
-  shared : (r : PathTexts) → is_front p r ≡ true → (k : Manager) (b : Bool) → is_same m k ≡ b → set.contains (unwrap_or (find manager_cmp k (others live.owners m)) set.empty) r ≡ true
+  shared : (r : PathTexts) → is_prefix p r ≡ true → (k : Manager) (b : Bool) → is_same m k ≡ b → set.contains (unwrap_or (find manager_cmp k (others live.owners m)) set.empty) r ≡ true
       → (k : Manager) × Owns (applied live body m) k p
   unfolding owned_by
-  shared r front k true same is = no_path r (sym (ap (λ o. set.contains (unwrap_or o set.empty) r) (find-others live.owners m k ∙ ap (λ b. cond (not b) (fin.get live.owners k) None) same)) ∙ is)
-  shared r front k false other is =
+  shared r prefix k true same is = no_path r (sym (ap (λ o. set.contains (unwrap_or o set.empty) r) (find-others live.owners m k ∙ ap (λ b. cond (not b) (fin.get live.owners k) None) same)) ∙ is)
+  shared r prefix k false other is =
       let owned = sym (ap (λ o. set.contains (unwrap_or o set.empty) r) (find-others live.owners m k ∙ ap (λ b. cond (not b) (fin.get live.owners k) None) other)) ∙ is in
-      let alike = ends s p r end (places r (standing k r owned)) front in
+      let alike = ends s p r end (places r (leaf_value k r owned)) prefix in
       (k, still_owned live body m k p other (ap (λ q. set.contains (owned_by live.owners k) q) alike ∙ owned) unchanged_here)
 
   abbrev all_of : PathSet
   all_of = all_paths (dom body) (others live.owners m)
 
-  by_front : (r : PathTexts) → is_front p r ≡ true → (set.contains (dom body) r ≡ true) ⊎ Found (others live.owners m) r → (k : Manager) × Owns (applied live body m) k p
-  by_front r front (inl is) = absurd (taken r front is)
-  by_front r front (inr (k, is)) = shared r front k (is_same m k) refl is
+  by_prefix : (r : PathTexts) → is_prefix p r ≡ true → (set.contains (dom body) r ≡ true) ⊎ Found (others live.owners m) r → (k : Manager) × Owns (applied live body m) k p
+  by_prefix r prefix (inl is) = absurd (taken r prefix is)
+  by_prefix r prefix (inr (k, is)) = shared r prefix k (is_same m k) refl is
 
   not_dropped : has_at_or_above (dropped live body m) p ≡ false → set.contains (owned_by live.owners m) p ≡ true → has_at_or_below all_of p ≡ true
   unfolding dropped
@@ -117,13 +117,13 @@ module _ (live : State) (body : Content) (m : Manager) (s : Shape) (places : Has
       by_test true h = refl
       by_test false h =
           let gone = contains-clear_of (owned_by live.owners m) all_of p ∙ ap₂ (λ a b. a && not b) owned h in
-          absurd (true≢false (sym (one_above (clear_of (owned_by live.owners m) all_of) p p gone (front_itself p)) ∙ free))
+          absurd (true≢false (sym (one_above (clear_of (owned_by live.owners m) all_of) p p gone (prefix_itself p)) ∙ free))
 
   by_owner : has_at_or_above (dropped live body m) p ≡ false → (k : Manager) (b : Bool) → is_same m k ≡ b → Owns live k p → (k : Manager) × Owns (applied live body m) k p
   by_owner free k false other owned = (k, still_owned live body m k p other owned unchanged_here)
   by_owner free k true same owned =
       let found = some_below all_of p (not_dropped free (ap (λ x. set.contains (owned_by live.owners x) p) (same_manager-is m k same) ∙ owned)) in
-      by_front found.0 found.2 (all_back (dom body) (others live.owners m) (sorted-others live.owners m) found.0 found.1)
+      by_prefix found.0 found.2 (all_back (dom body) (others live.owners m) (sorted-others live.owners m) found.0 found.1)
 
 module _ (live : State) (body : Content) (m : Manager) where
   pub after-is : (p : PathTexts) → fin.get (applied live body m).content p ≡ cond (has_at_or_above (dropped live body m) p) None (either (fin.get body p) (fin.get live.content p))
@@ -134,29 +134,29 @@ module _ (live : State) (body : Content) (m : Manager) where
   pub places_kept : (s : Shape) → HasPlaces s live.content → HasPlaces s body → HasPlaces s (applied live body m).content
   places_kept s places body_places p there = by_body (fin.get body p) refl
     where
-      some_of : (b : Bool) (o : Option Standing) → is_some (cond b None o) ≡ true → is_some o ≡ true
+      some_of : (b : Bool) (o : Option LeafValue) → is_some (cond b None o) ≡ true → is_some o ≡ true
       some_of true o h = absurd (true≢false (sym h))
       some_of false o h = h
 
-      by_body : (o : Option Standing) → fin.get body p ≡ o → is_some (place_of s p) ≡ true
+      by_body : (o : Option LeafValue) → fin.get body p ≡ o → is_some (place_of s p) ≡ true
       by_body (Some v) is = body_places p (ap is_some is)
       by_body None is =
           places p (some_of (has_at_or_above (dropped live body m) p) (fin.get live.content p)
           (sym (ap is_some (after-is p ∙ ap (λ o. cond (has_at_or_above (dropped live body m) p) None (either o (fin.get live.content p))) is)) ∙ there))
 
-module _ (live : State) (body : Content) (m : Manager) (s : Shape) (places : HasPlaces s live.content) (body_places : HasPlaces s body) (standing : OwnedStand live) where
+module _ (live : State) (body : Content) (m : Manager) (s : Shape) (places : HasPlaces s live.content) (body_places : HasPlaces s body) (leaf_value : OwnedArePresent live) where
   mine : (p : PathTexts) → is_some (fin.get body p) ≡ true → Owns (applied live body m) m p
   unfolding applied
   mine p is = ap (λ t. set.contains t p) (owned_mine live.owners m (changed body live.content) (dom body)) ∙ contains-dom body p ∙ is
 
-  free_of : (b : Bool) (o : Option Standing) → is_some (cond b None o) ≡ true → b ≡ false
+  free_of : (b : Bool) (o : Option LeafValue) → is_some (cond b None o) ≡ true → b ≡ false
   free_of true o h = absurd (true≢false (sym h))
   free_of false o h = refl
 
   pub leaves_owned : LeavesOwned s live (applied live body m)
   leaves_owned p there end = by_body (fin.get body p) refl
     where
-      by_body : (o : Option Standing) → fin.get body p ≡ o → ((k : Manager) × Owns (applied live body m) k p) ⊎ StoodUnowned live (applied live body m) p
+      by_body : (o : Option LeafValue) → fin.get body p ≡ o → ((k : Manager) × Owns (applied live body m) k p) ⊎ StoodUnowned live (applied live body m) p
       by_body (Some v) is = inl (m, mine p (ap is_some is))
       by_body None is = by_owned (owned_or_not live p)
         where
@@ -167,5 +167,5 @@ module _ (live : State) (body : Content) (m : Manager) (s : Shape) (places : Has
           free = free_of (has_at_or_above (dropped live body m) p) (fin.get live.content p) (sym (ap is_some after) ∙ there)
 
           by_owned : ((k : Manager) × Owns live k p) ⊎ ((k : Manager) → ¬ (Owns live k p)) → ((k : Manager) × Owns (applied live body m) k p) ⊎ StoodUnowned live (applied live body m) p
-          by_owned (inl owner) = inl (by_owner live body m s places body_places standing p end is free owner.0 (is_same m owner.0) refl owner.1)
+          by_owned (inl owner) = inl (by_owner live body m s places body_places leaf_value p end is free owner.0 (is_same m owner.0) refl owner.1)
           by_owned (inr nobody) = inr (after ∙ ap (λ b. cond b None (fin.get live.content p)) free, nobody)

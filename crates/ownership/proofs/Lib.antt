@@ -5,7 +5,7 @@ pub mod Keeping
 pub mod Ends
 pub mod Leaves
 pub mod Sharing
-pub mod Placed
+pub mod WellTyped
 pub mod Clauses
 pub mod Changing
 pub mod Sides

@@ -7,8 +7,8 @@ use Rattle.std.specs.Ordering.{int_cmp, is_eq}
 use Rattle.std.specs.Cmp.{Equal-is, tied_itself, int_cmp_total}
 use Rattle.std.specs.Cmp.Lexicographic.{bytes_decides}
 use Rattle.fieldpath.specs.Paths.{PathTexts}
-use Rattle.pathmap.specs.Contents.{Standing, text, whole, truth, plain, mark, Content, PathSet}
-use Rattle.pathmap.specs.Beside.{same_standing, same_value, changed, is_unchanged, is_within}
+use Rattle.pathmap.specs.Contents.{LeafValue, text, whole, truth, plain, mark, Content, PathSet}
+use Rattle.pathmap.specs.Beside.{same_leaf_value, same_value, changed, is_unchanged, is_within}
 use Rattle.pathmap.proofs.Contents.{path_cmp_total, same}
 use Rattle.pathmap.proofs.Sets.{same_paths, contains-changed, has_no_path, without_path, within_at}
 use Rattle.objects.specs.Owners.{Manager, is_same}
@@ -20,41 +20,41 @@ use Rattle.objects.proofs.Entries.{length-pairs}
 use Rattle.objects.proofs.Within.{left_true, right_true, both_true, none_left, same_manager-is, same_manager-itself}
 
 -- ---- values
-pub same_standing-is : (v w : Standing) → same_standing v w ≡ true → v ≡ w
-same_standing-is (text s) (text t) e = ap text ((bytes_decides s t).0 e)
-same_standing-is (whole n) (whole m) e = ap whole (int_cmp-IsAntisymmetric n m ((Equal-is (int_cmp n m)).0 e))
-same_standing-is (truth true) (truth true) e = refl
-same_standing-is (truth true) (truth false) e = absurd (true≢false (sym e))
-same_standing-is (truth false) (truth true) e = absurd (true≢false (sym e))
-same_standing-is (truth false) (truth false) e = refl
-same_standing-is (plain s) (plain t) e = ap plain ((bytes_decides s t).0 e)
-same_standing-is mark mark e = refl
-same_standing-is _ _ e = absurd (true≢false (sym e))
+pub same_leaf_value-is : (v w : LeafValue) → same_leaf_value v w ≡ true → v ≡ w
+same_leaf_value-is (text s) (text t) e = ap text ((bytes_decides s t).0 e)
+same_leaf_value-is (whole n) (whole m) e = ap whole (int_cmp-IsAntisymmetric n m ((Equal-is (int_cmp n m)).0 e))
+same_leaf_value-is (truth true) (truth true) e = refl
+same_leaf_value-is (truth true) (truth false) e = absurd (true≢false (sym e))
+same_leaf_value-is (truth false) (truth true) e = absurd (true≢false (sym e))
+same_leaf_value-is (truth false) (truth false) e = refl
+same_leaf_value-is (plain s) (plain t) e = ap plain ((bytes_decides s t).0 e)
+same_leaf_value-is mark mark e = refl
+same_leaf_value-is _ _ e = absurd (true≢false (sym e))
 
-pub same_standing-itself : (v : Standing) → same_standing v v ≡ true
-same_standing-itself (text s) = (bytes_decides s s).1 refl
-same_standing-itself (whole n) = ap is_eq (tied_itself int_cmp_total n)
-same_standing-itself (truth true) = refl
-same_standing-itself (truth false) = refl
-same_standing-itself (plain s) = (bytes_decides s s).1 refl
-same_standing-itself mark = refl
+pub same_leaf_value-itself : (v : LeafValue) → same_leaf_value v v ≡ true
+same_leaf_value-itself (text s) = (bytes_decides s s).1 refl
+same_leaf_value-itself (whole n) = ap is_eq (tied_itself int_cmp_total n)
+same_leaf_value-itself (truth true) = refl
+same_leaf_value-itself (truth false) = refl
+same_leaf_value-itself (plain s) = (bytes_decides s s).1 refl
+same_leaf_value-itself mark = refl
 
-pub same_value-is : (a b : Option Standing) → same_value a b ≡ true → a ≡ b
+pub same_value-is : (a b : Option LeafValue) → same_value a b ≡ true → a ≡ b
 same_value-is None None e = refl
 same_value-is None (Some w) e = absurd (true≢false (sym e))
 same_value-is (Some v) None e = absurd (true≢false (sym e))
-same_value-is (Some v) (Some w) e = ap Some (same_standing-is v w e)
+same_value-is (Some v) (Some w) e = ap Some (same_leaf_value-is v w e)
 
-pub same_value-itself : (a : Option Standing) → same_value a a ≡ true
+pub same_value-itself : (a : Option LeafValue) → same_value a a ≡ true
 same_value-itself None = refl
-same_value-itself (Some v) = same_standing-itself v
+same_value-itself (Some v) = same_leaf_value-itself v
 
 -- ---- contents
-unchanged_both : (a b : Option Standing) → (is_some a && not (same_value a b)) ≡ false → (is_some b && not (same_value b a)) ≡ false → a ≡ b
+unchanged_both : (a b : Option LeafValue) → (is_some a && not (same_value a b)) ≡ false → (is_some b && not (same_value b a)) ≡ false → a ≡ b
 unchanged_both None None e f = refl
 unchanged_both None (Some w) e f = absurd (true≢false f)
 unchanged_both (Some v) None e f = absurd (true≢false e)
-unchanged_both (Some v) (Some w) e f = ap Some (same_standing-is v w (none_left (same_standing v w) e))
+unchanged_both (Some v) (Some w) e f = ap Some (same_leaf_value-is v w (none_left (same_leaf_value v w) e))
 
 unchanged_at : (c d : Content) → is_unchanged c d ≡ true → (q : PathTexts) → (is_some (fin.get c q) && not (same_value (fin.get c q) (fin.get d q))) ≡ false
 unchanged_at c d e q = sym (contains-changed c d q) ∙ has_no_path (changed c d) e q
@@ -62,9 +62,9 @@ unchanged_at c d e q = sym (contains-changed c d q) ∙ has_no_path (changed c d
 pub same_content-is : (c d : Content) → same_content c d ≡ true → c ≡ d
 same_content-is c d e = same c d (λ q. unchanged_both (fin.get c q) (fin.get d q) (unchanged_at c d (left_true (is_unchanged c d) _ e) q) (unchanged_at d c (right_true (is_unchanged c d) _ e) q))
 
-itself_unchanged : (a : Option Standing) → (is_some a && not (same_value a a)) ≡ false
+itself_unchanged : (a : Option LeafValue) → (is_some a && not (same_value a a)) ≡ false
 itself_unchanged None = refl
-itself_unchanged (Some v) = ap not (same_standing-itself v)
+itself_unchanged (Some v) = ap not (same_leaf_value-itself v)
 
 pub unchanged-itself : (c : Content) → is_unchanged c c ≡ true
 unchanged-itself c = without_path (changed c c) (λ q. contains-changed c c q ∙ itself_unchanged (fin.get c q))

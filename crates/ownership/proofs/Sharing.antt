@@ -15,14 +15,14 @@ use Rattle.pathmap.proofs.Contents.{path_cmp_antisymmetric, path_cmp_total}
 use Rattle.pathmap.proofs.Order.{is_marked}
 use Rattle.pathmap.proofs.Sets.{contains-changed, contains-dom}
 use Rattle.objects.specs.Owners.{Manager, is_same, manager_cmp, others}
-use Rattle.objects.specs.Placed.{Owns, Stands}
+use Rattle.objects.specs.WellTyped.{Owns, IsPresent}
 use Rattle.objects.specs.State.{State}
 use Rattle.objects.proofs.Entries.{Pairs, fst, snd}
 use Rattle.objects.proofs.Orders.{manager_total}
 use Rattle.objects.proofs.Taking.{find-others, none_above, owned_mine, sorted-others, tied}
 use Rattle.objects.proofs.Within.{both_true, left_true, right_true}
 use Rattle.ownership.specs.Apply.{Conflict, applied, conflicts, conflicts_with}
-use Rattle.ownership.specs.Sharing.{IsOneOf, Meets, OtherValuesConflict, SameValuesAreShared}
+use Rattle.ownership.specs.SharingLaws.{IsOneOf, Meets, OtherValuesConflict, SameValuesAreShared}
 use Rattle.ownership.proofs.Keeping.{other_manager, owned-others, still_owned, stays_body}
 use Rattle.ownership.proofs.Leaves.{no_path}
 use Rattle.ownership.proofs.Sameness.{same_value-is, same_value-itself}
@@ -137,7 +137,7 @@ module _ (state : State) (body : Content) (m k : Manager) (p : PathTexts) where
       and_false true = refl
       and_false false = refl
 
-  is_changed : Stands body p → ¬ (fin.get body p ≡ fin.get state.content p) → set.contains changes p ≡ true
+  is_changed : IsPresent body p → ¬ (fin.get body p ≡ fin.get state.content p) → set.contains changes p ≡ true
   is_changed there differs = contains-changed body state.content p ∙ both_true _ _ there (by_test (same_value (fin.get body p) (fin.get state.content p)) refl)
     where
       by_test : (b : Bool) → same_value (fin.get body p) (fin.get state.content p) ≡ b → not b ≡ true
@@ -148,7 +148,7 @@ module _ (state : State) (body : Content) (m k : Manager) (p : PathTexts) where
   unfolding conflicts
   none_there same j is = true≢false (sym (only_changed changes (others state.owners m) j p is) ∙ unchanged same)
 
-  owns_too : Stands body p → Owns (applied state body m) m p
+  owns_too : IsPresent body p → Owns (applied state body m) m p
   unfolding applied
   owns_too there = ap (λ x. set.contains x p) (owned_mine state.owners m changes (dom body)) ∙ contains-dom body p ∙ there
 

@@ -6,8 +6,8 @@ use Rattle.std.specs.FinSet as set
 use Rattle.std.specs.Cmp.Lexicographic.{bytes_decides}
 use Rattle.std.specs.Str.{bytes_eq}
 use Rattle.fieldpath.specs.Paths.{PathTexts}
-use Rattle.pathmap.specs.Beside.{changed, has_at_or_above, is_front, same_value}
-use Rattle.pathmap.specs.Contents.{Standing, Content, PathSet, dom}
+use Rattle.pathmap.specs.Beside.{changed, has_at_or_above, is_prefix, same_value}
+use Rattle.pathmap.specs.Contents.{LeafValue, Content, PathSet, dom}
 use Rattle.pathmap.specs.Parted.{is_in, part_of, rest_of}
 use Rattle.pathmap.specs.declared.parts.Part.{Part}
 use Rattle.pathmap.proofs.Contents.{path_cmp_antisymmetric, path_cmp_total, same, either, get-over}
@@ -59,11 +59,11 @@ none_written Main = refl
 none_written Status = refl
 
 -- what is written at a path is written below it
-written_below : (x : Subresource) (q p : PathTexts) → is_front q p ≡ true → writes x q ≡ true → writes x p ≡ true
-written_below x [] p front is = absurd (true≢false (sym is ∙ none_written x))
-written_below x (f ∷ q) [] front is = absurd (true≢false (sym front))
-written_below x (f ∷ q) (g ∷ p) front is =
-    let alike = (bytes_decides f g).0 (left_true (bytes_eq f g) (is_front q p) front) in
+written_below : (x : Subresource) (q p : PathTexts) → is_prefix q p ≡ true → writes x q ≡ true → writes x p ≡ true
+written_below x [] p prefix is = absurd (true≢false (sym is ∙ none_written x))
+written_below x (f ∷ q) [] prefix is = absurd (true≢false (sym prefix))
+written_below x (f ∷ q) (g ∷ p) prefix is =
+    let alike = (bytes_decides f g).0 (left_true (bytes_eq f g) (is_prefix q p) prefix) in
     ap (λ h. writes x (h ∷ p)) (sym alike) ∙ first_decides x f p q ∙ is
 
 -- ---- contents of a schema, and places
@@ -83,7 +83,7 @@ module _ (x : Subresource) (s : Shape) where
   pub own_places : (c : Content) → HasPlaces s c → HasPlaces s (own_part x c)
   own_places c places p there = places p (in_whole (writes x p) (fin.get c p) (sym (ap is_some (get-own x c p)) ∙ there))
     where
-      in_whole : (b : Bool) (o : Option Standing) → is_some (cond b o None) ≡ true → is_some o ≡ true
+      in_whole : (b : Bool) (o : Option LeafValue) → is_some (cond b o None) ≡ true → is_some o ≡ true
       in_whole true o h = h
       in_whole false o h = absurd (true≢false (sym h))
 

@@ -9,7 +9,7 @@ use Rattle.schema.specs.Shape.{Shape}
 use Rattle.typed.specs.Carried.{IsCarried, IsNewLeaf, carried}
 use Rattle.objects.specs.Carried.{carried_owners}
 use Rattle.objects.specs.Owners.{Manager}
-use Rattle.objects.specs.Placed.{IsPlacedState, Owns, Stands}
+use Rattle.objects.specs.WellTyped.{IsWellTypedState, Owns, IsPresent}
 use Rattle.objects.specs.State.{State}
 use Rattle.ownership.specs.Keeping.{StoodUnowned, is_end}
 use Rattle.ownership.specs.Sides.{OwnSides}
@@ -42,13 +42,13 @@ NobodyOwned old p = (k : Manager) (q : PathTexts) → ¬ (Owns old k (p ++ q))
 -- which nobody owned anything
 abbrev pub LeavesOwnedStill : Shape → Shape → State → State → Type 0
 LeavesOwnedStill s t old new =
-    (p : PathTexts) → Stands new.content p → is_end (place_of t p) ≡ true → ((k : Manager) × Owns new k p) ⊎ StoodUnowned old new p ⊎ IsNewLeaf s t p × NobodyOwned old p
+    (p : PathTexts) → IsPresent new.content p → is_end (place_of t p) ≡ true → ((k : Manager) × Owns new k p) ⊎ StoodUnowned old new p ⊎ IsNewLeaf s t p × NobodyOwned old p
 
 -- what a carry promises
 pub record Carries (s t : Shape) (old new : State) : Type 0 where
   pub is : new ≡ carried_state s t old
   pub content : IsCarried s t old.content new.content
-  pub placed : IsPlacedState t new
+  pub well_typed : IsWellTypedState t new
   pub leaves : LeavesPass s t old new
   pub others : OthersStay s t old new
   pub sides : OwnSides old → OwnSides new

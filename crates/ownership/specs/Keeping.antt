@@ -8,7 +8,7 @@ use Rattle.schema.specs.Shape.{Shape}
 use Rattle.schema.specs.declared.place.Place.{Place}
 use Rattle.schema.specs.declared.place.Place.TheVariants.{Leaf, SetItem, MapItem}
 use Rattle.objects.specs.Owners.{Manager}
-use Rattle.objects.specs.Placed.{Stands, Owns}
+use Rattle.objects.specs.WellTyped.{IsPresent, Owns}
 use Rattle.objects.specs.State.{State}
 use Rattle.ownership.specs.Apply.{conflicts, applied}
 
@@ -18,7 +18,7 @@ OthersKeep old new m = (k : Manager) (p : PathTexts) → ¬ (k ≡ m) → Owns o
 
 -- each path of the content has a place in the schema
 abbrev pub HasPlaces : Shape → Content → Type 0
-HasPlaces s c = (p : PathTexts) → Stands c p → is_some (place_of s p) ≡ true
+HasPlaces s c = (p : PathTexts) → IsPresent c p → is_some (place_of s p) ≡ true
 
 -- leaves and set items, below which nothing has a place
 abbrev pub is_end : Option Place → Bool
@@ -33,7 +33,7 @@ StoodUnowned old new p = (fin.get new.content p ≡ fin.get old.content p) × ((
 
 -- each leaf and each set item of the new content has an owner, unless it stood before, with this value, without one
 abbrev pub LeavesOwned : Shape → State → State → Type 0
-LeavesOwned s old new = (p : PathTexts) → Stands new.content p → is_end (place_of s p) ≡ true → ((k : Manager) × Owns new k p) ⊎ StoodUnowned old new p
+LeavesOwned s old new = (p : PathTexts) → IsPresent new.content p → is_end (place_of s p) ≡ true → ((k : Manager) × Owns new k p) ⊎ StoodUnowned old new p
 
 -- the same apply, with or without force, finds no conflict and changes nothing
 abbrev pub IsSettled : State → Content → Manager → Type 0

@@ -2,7 +2,7 @@ pub mod Apply
 pub mod Results
 pub mod Sameness
 pub mod Keeping
-pub mod Sharing
+pub mod SharingLaws
 pub mod Update
 pub mod Outcomes
 pub mod Sides

@@ -10,7 +10,7 @@ use Rattle.pathmap.specs.Contents.{Content, over}
 use Rattle.objects.specs.declared.manager.Subresource.{Subresource}
 use Rattle.objects.specs.declared.manager.Subresource.TheVariants.{Main, Status}
 use Rattle.objects.specs.Owners.{Manager, owned_by}
-use Rattle.objects.specs.Placed.{Owns}
+use Rattle.objects.specs.WellTyped.{Owns}
 use Rattle.objects.specs.State.{State}
 
 -- whether a path is the field `status`, or below it

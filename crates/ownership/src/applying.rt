@@ -9,7 +9,7 @@ ghost use Rattle.typed.specs.Fitting.{IsContent};
 ghost use Rattle.objects.specs.Owners.{apply_operation, manager_by, others};
 ghost use Rattle.ownership.specs.Apply.{applied, clear_of_all, conflicts_with, dropped, is_refused};
 ghost use Rattle.ownership.specs.Keeping.{HasPlaces, IsSettled, LeavesOwned, OthersKeep};
-ghost use Rattle.objects.specs.Placed.{IsPlacedState, OwnedStand};
+ghost use Rattle.objects.specs.WellTyped.{IsWellTypedState, OwnedArePresent};
 ghost use Rattle.objects.specs.Managers.{manager_view};
 ghost use Rattle.ownership.specs.Results.{Applies, conflict_of};
 ghost use Rattle.ownership.specs.Sides.{OtherSideStays, OwnSides, own_part};
@@ -139,9 +139,9 @@ pub fn apply(
     ensures sides { OwnSides (state_of live.now) → IfOk result (λ o. OwnSides (state_of o)) }
     ensures apart { OwnSides (state_of live.now) → IfOk result (λ o. OtherSideStays subresource (state_of live.now) (state_of o)) }
     ensures places { (s : Shape) → HasPlaces s live.now.tree → HasPlaces s config → IfOk result (λ o. HasPlaces s o.tree) }
-    ensures stand { OwnedStand (state_of live.now) → IfOk result (λ o. OwnedStand (state_of o)) }
-    ensures leaves { (s : Shape) → HasPlaces s live.now.tree → HasPlaces s config → OwnedStand (state_of live.now) → IfOk result (λ o. LeavesOwned s (state_of live.now) (state_of o)) }
-    ensures placed { (s : Shape) → IsContent s config → IsPlacedState s (state_of live.now) → IfOk result (λ o. IsPlacedState s (state_of o)) }
+    ensures stand { OwnedArePresent (state_of live.now) → IfOk result (λ o. OwnedArePresent (state_of o)) }
+    ensures leaves { (s : Shape) → HasPlaces s live.now.tree → HasPlaces s config → OwnedArePresent (state_of live.now) → IfOk result (λ o. LeavesOwned s (state_of live.now) (state_of o)) }
+    ensures well_typed { (s : Shape) → IsContent s config → IsWellTypedState s (state_of live.now) → IfOk result (λ o. IsWellTypedState s (state_of o)) }
     ensures again { IfOk result (λ o. IsSettled (state_of o) (own_part subresource config) (manager_by manager.now apply_operation subresource)) }
 {
     let manager = Manager::by(alloc, manager, Operation::Apply, subresource)?;

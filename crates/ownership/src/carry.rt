@@ -3,7 +3,7 @@
 
 ghost use Rattle.std.specs.Prelude.{IfOk};
 ghost use Rattle.schema.specs.Shape.{shape};
-ghost use Rattle.objects.specs.Placed.{IsPlacedState};
+ghost use Rattle.objects.specs.WellTyped.{IsWellTypedState};
 ghost use Rattle.objects.specs.Views.{state_of};
 ghost use Rattle.ownership.specs.Carry.{Carries};
 
@@ -31,22 +31,22 @@ pub trait Carry {
 
 /// The object under the new schema. Who owned a path at or below a leaf that is made owns that leaf.
 fn carried(alloc: Global, object: &Owned, schemas: NewSchema<'_>) -> Result<Owned, AllocError>
-    requires { IsPlacedState (shape schemas.old.now) (state_of object.now) }
+    requires { IsWellTypedState (shape schemas.old.now) (state_of object.now) }
     ensures { IfOk result (λ o. Carries (shape schemas.entry.old.now) (shape schemas.entry.new.now) (state_of object.now) (state_of o)) }
 {
     let tree = object.tree.carried(alloc, schemas)?;
-    let stands = paths_in(&tree, alloc)?;
-    let made = lacking(&object.tree, alloc, &stands)?;
-    let managers = object.managers.carried(alloc, &stands, &made)?;
+    let present = paths_in(&tree, alloc)?;
+    let made = lacking(&object.tree, alloc, &present)?;
+    let managers = object.managers.carried(alloc, &present, &made)?;
     Ok(Owned { tree, managers })
 }
 
 impl Carry for NewSchema<'_> {
     ghost use Rattle.schema.specs.Shape.{shape};
-    ghost use Rattle.objects.specs.Placed.{IsPlacedState};
+    ghost use Rattle.objects.specs.WellTyped.{IsWellTypedState};
     ghost use Rattle.ownership.specs.Carry.{Carries};
 
-    ghost takes = { λ n state. IsPlacedState (shape n.old.now) state };
+    ghost takes = { λ n state. IsWellTypedState (shape n.old.now) state };
 
     ghost carries = { λ n old new. Carries (shape n.old.now) (shape n.new.now) old new };
 

@@ -1,6 +1,6 @@
 //! Laws of owners. The function does nothing; what it promises is the law.
 
-ghost use Rattle.ownership.specs.Sharing.{OtherValuesConflict, SameValuesAreShared};
+ghost use Rattle.ownership.specs.SharingLaws.{OtherValuesConflict, SameValuesAreShared};
 
 /// Who applies the value that stands at a path that others own has no conflict there, and owns it beside them; who
 /// applies another value has a conflict with each of them, and there are no other conflicts. It holds of each path alike,

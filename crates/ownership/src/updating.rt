@@ -5,7 +5,7 @@ ghost use Rattle.std.specs.FinSet as set;
 ghost use Rattle.objects.specs.Owners.{manager_by, owned_by, taken_over, update_operation};
 ghost use Rattle.schema.specs.Shape.{Shape};
 ghost use Rattle.typed.specs.Fitting.{IsContent};
-ghost use Rattle.objects.specs.Placed.{IsPlacedState, OwnedStand};
+ghost use Rattle.objects.specs.WellTyped.{IsWellTypedState, OwnedArePresent};
 ghost use Rattle.ownership.specs.Keeping.{LeavesOwned};
 ghost use Rattle.objects.specs.Managers.{manager_view};
 ghost use Rattle.objects.specs.Views.{state_of};
@@ -70,8 +70,8 @@ pub fn update(
     ensures updates { IfOk result (λ o. state_of o ≡ updated (state_of live.now) (beside_others subresource new live.now.tree) (manager_by manager.now update_operation subresource)) }
     ensures sides { OwnSides (state_of live.now) → IfOk result (λ o. OwnSides (state_of o)) }
     ensures apart { OwnSides (state_of live.now) → IfOk result (λ o. OtherSideStays subresource (state_of live.now) (state_of o)) }
-    ensures stand { OwnedStand (state_of live.now) → IfOk result (λ o. OwnedStand (state_of o)) }
-    ensures placed { (s : Shape) → IsContent s new → IsPlacedState s (state_of live.now) → IfOk result (λ o. IsPlacedState s (state_of o)) }
+    ensures stand { OwnedArePresent (state_of live.now) → IfOk result (λ o. OwnedArePresent (state_of o)) }
+    ensures well_typed { (s : Shape) → IsContent s new → IsWellTypedState s (state_of live.now) → IfOk result (λ o. IsWellTypedState s (state_of o)) }
     ensures leaves { (s : Shape) → IfOk result (λ o. LeavesOwned s (state_of live.now) (state_of o)) }
 {
     let manager = Manager::by(alloc, manager, Operation::Update, subresource)?;

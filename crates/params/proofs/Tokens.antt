@@ -10,7 +10,7 @@ use Rattle.params.specs.Texts.{cut_at_dot, is_dot, is_dotless, token_at, token_c
 use Rattle.params.specs.Values.{Token}
 
 -- the first dot stands at the end of what has none
-place_of_dot : (front back : List ℕ) → is_dotless front ≡ true → position_or_len is_dot (front ++ 46 ∷ back) ≡ length front
+place_of_dot : (prefix back : List ℕ) → is_dotless prefix ≡ true → position_or_len is_dot (prefix ++ 46 ∷ back) ≡ length prefix
 place_of_dot [] back none = refl
 place_of_dot (b ∷ bs) back none = go (place_of_dot bs back) (is_dot b) refl none
   where
@@ -18,15 +18,15 @@ place_of_dot (b ∷ bs) back none = go (place_of_dot bs back) (is_dot b) refl no
     go rest true is h = cc
     go rest false is h = ap (λ n. 1 + n) (rest h) ∙ one-add _
 
-take_front : (front back : List ℕ) → take (length front) (front ++ back) ≡ front
-take_front [] back = refl
-take_front (b ∷ bs) back = ap (λ xs. b ∷ xs) (take_front bs back)
+take_prefix : (prefix back : List ℕ) → take (length prefix) (prefix ++ back) ≡ prefix
+take_prefix [] back = refl
+take_prefix (b ∷ bs) back = ap (λ xs. b ∷ xs) (take_prefix bs back)
 
-drop_front : (front back : List ℕ) → drop (length front + 1) (front ++ 46 ∷ back) ≡ back
-drop_front [] back = refl
-drop_front (b ∷ bs) back = let shift : length (b ∷ bs) + 1 ≡ suc (length bs + 1) = omega arith in rw shift (drop_front bs back)
+drop_prefix : (prefix back : List ℕ) → drop (length prefix + 1) (prefix ++ 46 ∷ back) ≡ back
+drop_prefix [] back = refl
+drop_prefix (b ∷ bs) back = let shift : length (b ∷ bs) + 1 ≡ suc (length bs + 1) = omega arith in rw shift (drop_prefix bs back)
 
-some_dot : (front back : List ℕ) → list_any is_dot (front ++ 46 ∷ back) ≡ true
+some_dot : (prefix back : List ℕ) → list_any is_dot (prefix ++ 46 ∷ back) ≡ true
 some_dot [] back = refl
 some_dot (b ∷ bs) back = go (is_dot b) (some_dot bs back)
   where
@@ -34,10 +34,10 @@ some_dot (b ∷ bs) back = go (is_dot b) (some_dot bs back)
     go true h = refl
     go false h = h
 
-cut_between : (front back : List ℕ) → is_dotless front ≡ true → cut_at_dot (front ++ 46 ∷ back) ≡ Some (front, back)
-cut_between front back none =
-    rw (some_dot front back) (ap (λ n. Some (take n (front ++ 46 ∷ back), drop (n + 1) (front ++ 46 ∷ back))) (place_of_dot front back none)
-    ∙ ap₂ (λ xs ys. Some (xs, ys)) (take_front front (46 ∷ back)) (drop_front front back))
+cut_between : (prefix back : List ℕ) → is_dotless prefix ≡ true → cut_at_dot (prefix ++ 46 ∷ back) ≡ Some (prefix, back)
+cut_between prefix back none =
+    rw (some_dot prefix back) (ap (λ n. Some (take n (prefix ++ 46 ∷ back), drop (n + 1) (prefix ++ 46 ∷ back))) (place_of_dot prefix back none)
+    ∙ ap₂ (λ xs ys. Some (xs, ys)) (take_prefix prefix (46 ∷ back)) (drop_prefix prefix back))
 
 right : (a b : Bool) → (a && b) ≡ true → b ≡ true
 right true b h = h

@@ -4,4 +4,4 @@ pub mod Values
 pub mod Texts
 pub mod Reading
 pub mod Views
-pub mod Faults
+pub mod FaultViews

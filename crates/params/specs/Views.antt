@@ -13,13 +13,13 @@ use Rattle.params.specs.Query.{Pairs}
 use Rattle.params.specs.Values.{Token, Watch, Values}
 
 -- what a call answered, seen by view, is what reading gives, unless there was no memory
-abbrev pub Fails : {B : Type 0} → ParamsFault → Result B Parameter → Type 0
-Fails (Bad p) answer = answer ≡ Err p
-Fails Memory answer = Unit {0}
+abbrev pub FailsWith : {B : Type 0} → ParamsFault → Result B Parameter → Type 0
+FailsWith (Bad p) answer = answer ≡ Err p
+FailsWith Memory answer = Unit {0}
 
-abbrev pub Gives : {A B : Type 0} → (A → B) → Result A ParamsFault → Result B Parameter → Type 0
-Gives view (Ok x) answer = answer ≡ Ok (view x)
-Gives view (Err e) answer = Fails e answer
+abbrev pub Returns : {A B : Type 0} → (A → B) → Result A ParamsFault → Result B Parameter → Type 0
+Returns view (Ok x) answer = answer ≡ Ok (view x)
+Returns view (Err e) answer = FailsWith e answer
 
 abbrev pub pairs_of : List (String Global × String Global) → Pairs
 pairs_of pairs = map (λ p. (string_bytes p.0, string_bytes p.1)) pairs

@@ -19,7 +19,7 @@ pub enum ParamsFault {
 
 impl fmt::Display for ParamsFault {
     ghost use Rattle.std.specs.Prelude.{Some};
-    ghost use Rattle.params.specs.Faults.{fault_text};
+    ghost use Rattle.params.specs.FaultViews.{fault_text};
 
     ghost output = { λ e. Some (fault_text e) };
 

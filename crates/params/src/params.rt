@@ -6,7 +6,7 @@ ghost use Rattle.params.specs.Query.{pairs_in};
 ghost use Rattle.params.specs.Reading.{applied, deleted, got, is_any, listed, listed_or_watched, match_fits, params_of, together, token_fits, watched, written};
 ghost use Rattle.params.specs.Texts.{ReadsBack, token_text};
 ghost use Rattle.params.specs.Values.{no_values};
-ghost use Rattle.params.specs.Views.{Gives, pairs_of, token_view, values_of};
+ghost use Rattle.params.specs.Views.{Returns, pairs_of, token_view, values_of};
 
 use crate::fault::ParamsFault;
 use crate::parameter::Parameter;
@@ -123,7 +123,7 @@ fn token_fits(
 }
 
 fn got(alloc: Global, query: &Query) -> Result<Params, ParamsFault>
-    ensures { Gives values_of result (got (pairs_of query.now.pairs.items)) }
+    ensures { Returns values_of result (got (pairs_of query.now.pairs.items)) }
 {
     let version = query.version()?;
     Ok(Params {
@@ -134,7 +134,7 @@ fn got(alloc: Global, query: &Query) -> Result<Params, ParamsFault>
 
 /// The parameters of a list, if they go together.
 fn together(params: Params) -> Result<Params, ParamsFault>
-    ensures { Gives values_of result (together (values_of params)) }
+    ensures { Returns values_of result (together (values_of params)) }
 {
     if !match_fits(params.version_match, params.version) {
         Err(ParamsFault::Bad(Parameter::ResourceVersionMatch))
@@ -146,7 +146,7 @@ fn together(params: Params) -> Result<Params, ParamsFault>
 }
 
 fn listed(alloc: Global, query: &Query) -> Result<Params, ParamsFault>
-    ensures { Gives values_of result (listed (pairs_of query.now.pairs.items)) }
+    ensures { Returns values_of result (listed (pairs_of query.now.pairs.items)) }
 {
     let token = query.token(alloc)?;
     query.absent(Parameter::FieldSelector)?;
@@ -166,7 +166,7 @@ fn listed(alloc: Global, query: &Query) -> Result<Params, ParamsFault>
 }
 
 fn watched(alloc: Global, query: &Query) -> Result<Params, ParamsFault>
-    ensures { Gives values_of result (watched (pairs_of query.now.pairs.items)) }
+    ensures { Returns values_of result (watched (pairs_of query.now.pairs.items)) }
 {
     let has_bookmarks = query.truth(Parameter::AllowWatchBookmarks)?;
     query.absent(Parameter::FieldSelector)?;
@@ -187,7 +187,7 @@ fn watched(alloc: Global, query: &Query) -> Result<Params, ParamsFault>
 }
 
 fn listed_or_watched(alloc: Global, query: &Query) -> Result<Params, ParamsFault>
-    ensures { Gives values_of result (listed_or_watched (pairs_of query.now.pairs.items)) }
+    ensures { Returns values_of result (listed_or_watched (pairs_of query.now.pairs.items)) }
 {
     if query.truth(Parameter::Watch)? {
         watched(alloc, query)
@@ -197,7 +197,7 @@ fn listed_or_watched(alloc: Global, query: &Query) -> Result<Params, ParamsFault
 }
 
 fn written(alloc: Global, query: &Query) -> Result<Params, ParamsFault>
-    ensures { Gives values_of result (written (pairs_of query.now.pairs.items)) }
+    ensures { Returns values_of result (written (pairs_of query.now.pairs.items)) }
 {
     query.absent(Parameter::DryRun)?;
     let manager = query.manager_or(alloc, "unknown")?;
@@ -209,7 +209,7 @@ fn written(alloc: Global, query: &Query) -> Result<Params, ParamsFault>
 }
 
 fn applied(alloc: Global, query: &Query) -> Result<Params, ParamsFault>
-    ensures { Gives values_of result (applied (pairs_of query.now.pairs.items)) }
+    ensures { Returns values_of result (applied (pairs_of query.now.pairs.items)) }
 {
     query.absent(Parameter::DryRun)?;
     let manager = query.manager(alloc)?;
@@ -223,7 +223,7 @@ fn applied(alloc: Global, query: &Query) -> Result<Params, ParamsFault>
 }
 
 fn deleted(alloc: Global, query: &Query) -> Result<Params, ParamsFault>
-    ensures { Gives values_of result (deleted (pairs_of query.now.pairs.items)) }
+    ensures { Returns values_of result (deleted (pairs_of query.now.pairs.items)) }
 {
     query.absent(Parameter::DryRun)?;
     Ok(Params::none(alloc))
@@ -252,7 +252,7 @@ impl Params {
     /// Refused with the first parameter at fault: of a list `watch` itself, then single ones in byte order of
     /// their names, then a match that the version doesn't fit, then a token beside a match or a version.
     pub fn read(alloc: Global, asked: Asked, query: &[u8]) -> Result<Params, ParamsFault>
-        ensures { Gives values_of result (params_of asked (pairs_in query.now)) }
+        ensures { Returns values_of result (params_of asked (pairs_in query.now)) }
     {
         let query = Query::read(alloc, query)?;
         match asked {

@@ -3,7 +3,7 @@
 ghost use Rattle.std.specs.Prelude.{◌≡◌, IfOk, ⊤, option_map, string_bytes};
 ghost use Rattle.params.specs.Query.{first_at, pairs_in, value_of};
 ghost use Rattle.params.specs.Reading.{absent_in, manager_in, manager_or, match_in, number_in, selector_in, strict_in, token_in, truth_in, version_in};
-ghost use Rattle.params.specs.Views.{Gives, pairs_of, token_view};
+ghost use Rattle.params.specs.Views.{Returns, pairs_of, token_view};
 
 use crate::fault::ParamsFault;
 use crate::parameter::Parameter;
@@ -56,7 +56,7 @@ impl Query {
     }
 
     pub(crate) fn absent(&self, parameter: Parameter) -> Result<(), ParamsFault>
-        ensures { Gives (λ _. tt) result (absent_in parameter (pairs_of self.now.pairs.items)) }
+        ensures { Returns (λ _. tt) result (absent_in parameter (pairs_of self.now.pairs.items)) }
     {
         if self.value(parameter).is_empty() {
             Ok(())
@@ -66,7 +66,7 @@ impl Query {
     }
 
     pub(crate) fn truth(&self, parameter: Parameter) -> Result<bool, ParamsFault>
-        ensures { Gives (λ t. t) result (truth_in parameter (pairs_of self.now.pairs.items)) }
+        ensures { Returns (λ t. t) result (truth_in parameter (pairs_of self.now.pairs.items)) }
     {
         let text = self.value(parameter);
         if text.is_empty() {
@@ -76,7 +76,7 @@ impl Query {
     }
 
     pub(crate) fn number(&self, parameter: Parameter, max: u64) -> Result<u64, ParamsFault>
-        ensures { Gives (λ n. n) result (number_in parameter max (pairs_of self.now.pairs.items)) }
+        ensures { Returns (λ n. n) result (number_in parameter max (pairs_of self.now.pairs.items)) }
     {
         let text = self.value(parameter);
         if text.is_empty() {
@@ -86,7 +86,7 @@ impl Query {
     }
 
     pub(crate) fn version(&self) -> Result<Option<u64>, ParamsFault>
-        ensures { Gives (λ v. v) result (version_in (pairs_of self.now.pairs.items)) }
+        ensures { Returns (λ v. v) result (version_in (pairs_of self.now.pairs.items)) }
     {
         let text = self.value(Parameter::ResourceVersion);
         if text.is_empty() {
@@ -99,7 +99,7 @@ impl Query {
     }
 
     pub(crate) fn version_match(&self) -> Result<Option<VersionMatch>, ParamsFault>
-        ensures { Gives (λ m. m) result (match_in (pairs_of self.now.pairs.items)) }
+        ensures { Returns (λ m. m) result (match_in (pairs_of self.now.pairs.items)) }
     {
         let text = self.value(Parameter::ResourceVersionMatch);
         if text.is_empty() {
@@ -112,7 +112,7 @@ impl Query {
     }
 
     pub(crate) fn token(&self, alloc: Global) -> Result<Option<Token>, ParamsFault>
-        ensures { Gives (λ t. option_map token_view t) result (token_in (pairs_of self.now.pairs.items)) }
+        ensures { Returns (λ t. option_map token_view t) result (token_in (pairs_of self.now.pairs.items)) }
     {
         let text = self.value(Parameter::Continue);
         if text.is_empty() {
@@ -131,7 +131,7 @@ impl Query {
     }
 
     pub(crate) fn selector(&self, alloc: Global) -> Result<Selector, ParamsFault>
-        ensures { Gives (λ s. s) result (selector_in (pairs_of self.now.pairs.items)) }
+        ensures { Returns (λ s. s) result (selector_in (pairs_of self.now.pairs.items)) }
     {
         match Selector::read(alloc, self.value(Parameter::LabelSelector)) {
             Ok(selector) => Ok(selector),
@@ -141,7 +141,7 @@ impl Query {
     }
 
     pub(crate) fn strict(&self) -> Result<(), ParamsFault>
-        ensures { Gives (λ _. tt) result (strict_in (pairs_of self.now.pairs.items)) }
+        ensures { Returns (λ _. tt) result (strict_in (pairs_of self.now.pairs.items)) }
     {
         match self.value(Parameter::FieldValidation) {
             "" | "Strict" => Ok(()),
@@ -151,7 +151,7 @@ impl Query {
 
     /// The manager's name, which has to be given.
     pub(crate) fn manager(&self, alloc: Global) -> Result<String, ParamsFault>
-        ensures { Gives string_bytes result (manager_in (pairs_of self.now.pairs.items)) }
+        ensures { Returns string_bytes result (manager_in (pairs_of self.now.pairs.items)) }
     {
         let name = self.value(Parameter::FieldManager);
         if !is_manager(name) {
@@ -162,7 +162,7 @@ impl Query {
 
     /// The manager's name, or `absent` where none is given.
     pub(crate) fn manager_or(&self, alloc: Global, absent: &str) -> Result<String, ParamsFault>
-        ensures { Gives string_bytes result (manager_or absent.now (pairs_of self.now.pairs.items)) }
+        ensures { Returns string_bytes result (manager_or absent.now (pairs_of self.now.pairs.items)) }
     {
         if self.value(Parameter::FieldManager).is_empty() {
             return Ok(String::from_str(alloc, absent)?);

@@ -12,7 +12,7 @@ use Rattle.pathmap.specs.Insides.{inside}
 use Rattle.pathmap.specs.Levels.{at_top, AreChildren, IsRising, child_of, has_path}
 use Rattle.pathmap.specs.Maps.{content_or_nothing}
 use Rattle.pathmap.specs.Puts.{put_in}
-use Rattle.pathmap.specs.declared.held.Held.{Held}
+use Rattle.pathmap.specs.declared.held.PathValue.{PathValue}
 use Rattle.pathmap.proofs.Children.{child_full, inside-level, turned}
 use Rattle.pathmap.proofs.Contents.{either, either-None, get-nothing, get-over, get-under, get-under-top, over-nothing, over-over, same}
 use Rattle.pathmap.proofs.Heads.{no_path}
@@ -40,12 +40,12 @@ gather-put f c cs kept full none = same (gather (put_in f c cs)) (over (gather c
         get-child g (put_in f c cs) (put_children f c cs full kept).0 q ∙ ap (λ o. fin.get (content_or_nothing o) q) (child-put f g c cs kept.0) ∙ by_name g q (bytes_eq f g) refl
         ∙ sym (get-over (gather cs) (under f c) (g ∷ q) ∙ ap₂ either (get-child g cs kept.0 q) (get-under f c g q ∙ ap (λ b. cond b (fin.get c q) None) (is_eq-slice_cmp g f)))
 
-level-put : (h : Option Held) (f : List ℕ) (c : Content) (cs : Named) → AreChildren cs → has_path c ≡ true → child_of f cs ≡ None
+level-put : (h : Option PathValue) (f : List ℕ) (c : Content) (cs : Named) → AreChildren cs → has_path c ≡ true → child_of f cs ≡ None
     → over (at_top h) (gather (put_in f c cs)) ≡ over (over (at_top h) (gather cs)) (under f c)
 level-put h f c cs kept full none = ap (over (at_top h)) (gather-put f c cs kept full none) ∙ sym (over-over (at_top h) (gather cs) (under f c))
 
 -- a child is there exactly if something stands inside its name
-pub inside_there : (h : Option Held) (cs : Named) → AreChildren cs → (f : List ℕ) → is_some (child_of f cs) ≡ has_path (inside f (over (at_top h) (gather cs)))
+pub inside_there : (h : Option PathValue) (cs : Named) → AreChildren cs → (f : List ℕ) → is_some (child_of f cs) ≡ has_path (inside f (over (at_top h) (gather cs)))
 inside_there h cs kept f = child_full f cs kept.1 ∙ sym (ap has_path (inside-level h cs kept f))
 
 -- ---- a map that may have no path
@@ -64,7 +64,7 @@ nothing_put false c d f none = refl
 
 -- ---- a mark at the empty path
 
-pub mark_put : (h : Option Held) (cs : Named) → over (here mark) (gather cs) ≡ over (here mark) (over (at_top h) (gather cs))
+pub mark_put : (h : Option PathValue) (cs : Named) → over (here mark) (gather cs) ≡ over (here mark) (over (at_top h) (gather cs))
 mark_put h cs = same (over (here mark) (gather cs)) (over (here mark) (over (at_top h) (gather cs))) by_path
   where
     level : Content
@@ -93,7 +93,7 @@ module _ (f : List ℕ) (m : Content) (cs new : Named) (kept : AreChildren cs) (
   children_after (Ok false) put err = subst AreChildren (sym (put kept.0)) kept
   children_after (Err e) put err = subst AreChildren (sym err) kept
 
-  pub level_after : (h : Option Held) (r : Result Bool AllocError) → Added r f cs → Put r f m cs new → IfOk r (λ b. over (at_top h) (gather new) ≡ cond b (over (over (at_top h) (gather cs)) (under f m)) (over (at_top h) (gather cs)))
+  pub level_after : (h : Option PathValue) (r : Result Bool AllocError) → Added r f cs → Put r f m cs new → IfOk r (λ b. over (at_top h) (gather new) ≡ cond b (over (over (at_top h) (gather cs)) (under f m)) (over (at_top h) (gather cs)))
   level_after h (Ok true) added put = ap (λ l. over (at_top h) (gather l)) (put kept.0) ∙ level-put h f m cs kept full (none_there (child_of f cs) (added kept.0))
   level_after h (Ok false) added put = ap (λ l. over (at_top h) (gather l)) (put kept.0)
   level_after h (Err e) added put = tt

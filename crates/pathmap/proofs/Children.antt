@@ -12,7 +12,7 @@ use Rattle.pathmap.specs.Contents.{Content, over, gather}
 use Rattle.pathmap.specs.Insides.{heads, inside}
 use Rattle.pathmap.specs.Levels.{at_top, has_path, height, IsRising, AreFull, AreChildren, child_of}
 use Rattle.pathmap.specs.Maps.{content_or_nothing, contents_in}
-use Rattle.pathmap.specs.declared.held.Held.{Held}
+use Rattle.pathmap.specs.declared.held.PathValue.{PathValue}
 use Rattle.pathmap.proofs.Contents.{same}
 use Rattle.pathmap.proofs.Heads.{heads-inside, itself, one_rising, rising}
 use Rattle.pathmap.proofs.Insides.{get-inside}
@@ -49,7 +49,7 @@ child_full g (c ∷ cs) full = by_test (child_full g cs full.1) (bytes_eq c.0 g)
     by_test later true = sym full.0
     by_test later false = later
 
-module _ (h : Option Held) (cs : List (List ℕ × Content)) (kept : AreChildren cs) where
+module _ (h : Option PathValue) (cs : List (List ℕ × Content)) (kept : AreChildren cs) where
   pub inside-level : (g : List ℕ) → inside g (over (at_top h) (gather cs)) ≡ content_or_nothing (child_of g cs)
   inside-level g = same (inside g (over (at_top h) (gather cs))) (content_or_nothing (child_of g cs)) (λ q. get-inside g (over (at_top h) (gather cs)) q ∙ get-level-below h cs kept.0 g q)
 
@@ -73,7 +73,7 @@ by_names (c ∷ cs) rises =
     later (f ∷ fs) all = ap₂ (λ x xs. x ∷ xs) (ap (λ b. (f, content_or_nothing (cond b (Some c.1) (child_of f cs)))) (below f all.0 (bytes_eq c.0 f) refl)) (later fs all.1)
 
 -- children are what stands inside each first element, in order
-pub children_are : (h : Option Held) (cs : List (List ℕ × Content)) → AreChildren cs → cs ≡ map {B = List ℕ × Content} (λ f. (f, inside f (over (at_top h) (gather cs)))) (heads (over (at_top h) (gather cs)))
+pub children_are : (h : Option PathValue) (cs : List (List ℕ × Content)) → AreChildren cs → cs ≡ map {B = List ℕ × Content} (λ f. (f, inside f (over (at_top h) (gather cs)))) (heads (over (at_top h) (gather cs)))
 children_are h cs kept =
     sym (by_names cs kept.0) ∙ sym (each (names_of cs)) ∙ ap (map {B = List ℕ × Content} (λ f. (f, inside f (over (at_top h) (gather cs))))) (sym (heads-level h cs kept))
   where

@@ -8,12 +8,12 @@ use Rattle.std.specs.Str.{bytes_eq}
 use Rattle.std.proofs.lemmas.Map.Keys.{sorted_head, sorted_tail}
 use Rattle.std.proofs.lemmas.Slice.Eq.{bytes_eq-Decides}
 use Rattle.fieldpath.specs.Paths.{PathTexts}
-use Rattle.pathmap.specs.Contents.{Standing, Content, nothing, over, gather, dom}
-use Rattle.pathmap.specs.Beside.{is_front, has_at_or_above, without}
+use Rattle.pathmap.specs.Contents.{LeafValue, Content, nothing, over, gather, dom}
+use Rattle.pathmap.specs.Beside.{is_prefix, has_at_or_above, without}
 use Rattle.pathmap.specs.Cuts.{cut_at, cut_each, full_in, index_from}
 use Rattle.pathmap.specs.Levels.{at_top, has_path, IsRising, AreFull, AreChildren, child_of}
 use Rattle.pathmap.specs.Maps.{content_or_nothing, contents_in}
-use Rattle.pathmap.specs.declared.held.Held.{Held}
+use Rattle.pathmap.specs.declared.held.PathValue.{PathValue}
 use Rattle.pathmap.proofs.Contents.{same, get-nothing, nothing-over}
 use Rattle.pathmap.proofs.Heads.{no_path}
 use Rattle.pathmap.proofs.Levels.{get-child, get-gather-top, get-level-gather, get-level-top, nothing_path}
@@ -26,7 +26,7 @@ Named = List (List ℕ × Content)
 abbrev names_of : Named → List (List ℕ)
 names_of = map (λ c. c.0)
 
-cond-None : (b : Bool) (o : Option Standing) → o ≡ None → cond b None o ≡ None
+cond-None : (b : Bool) (o : Option LeafValue) → o ≡ None → cond b None o ≡ None
 cond-None true o e = refl
 cond-None false o e = e
 
@@ -36,21 +36,21 @@ unfolding has_at_or_above
 without_all c s is = same (without c (dom s)) nothing (λ q. get-without c (dom s) q ∙ ap (λ b. cond b None (fin.get c q)) (above q) ∙ sym (get-nothing q))
   where
     above : (q : PathTexts) → has_at_or_above (dom s) q ≡ true
-    above q = passes_one (λ p. is_front p q) s [] is refl
+    above q = passes_one (λ p. is_prefix p q) s [] is refl
 
 pub nothing-above : (q : PathTexts) → has_at_or_above (dom nothing) q ≡ false
 unfolding has_at_or_above
 nothing-above q = by_answer (has_at_or_above (dom nothing) q) refl
   where
     by_answer : (b : Bool) → has_at_or_above (dom nothing) q ≡ b → b ≡ false
-    by_answer true h = let found = passes_some (λ p. is_front p q) nothing h in absurd (true≢false (sym found.1 ∙ ap is_some (get-nothing found.0)))
+    by_answer true h = let found = passes_some (λ p. is_prefix p q) nothing h in absurd (true≢false (sym found.1 ∙ ap is_some (get-nothing found.0)))
     by_answer false h = refl
 
 pub nothing-without : (s : Content) → without nothing (dom s) ≡ nothing
 nothing-without s = same (without nothing (dom s)) nothing (λ q. get-without nothing (dom s) q ∙ cond-None (has_at_or_above (dom s) q) (fin.get nothing q) (get-nothing q) ∙ sym (get-nothing q))
 
 -- a level at whose top the set has none
-pub without-level : (h : Option Held) (es ms : Named) (s : Content) → is_some (fin.get s []) ≡ false → gather ms ≡ without (gather es) (dom s) → over (at_top h) (gather ms) ≡ without (over (at_top h) (gather es)) (dom s)
+pub without-level : (h : Option PathValue) (es ms : Named) (s : Content) → is_some (fin.get s []) ≡ false → gather ms ≡ without (gather es) (dom s) → over (at_top h) (gather ms) ≡ without (over (at_top h) (gather es)) (dom s)
 without-level h es ms s top below = same (over (at_top h) (gather ms)) (without (over (at_top h) (gather es)) (dom s)) by_path
   where
     by_path : (q : PathTexts) → fin.get (over (at_top h) (gather ms)) q ≡ fin.get (without (over (at_top h) (gather es)) (dom s)) q
@@ -61,7 +61,7 @@ without-level h es ms s top below = same (over (at_top h) (gather ms)) (without 
         ∙ sym (get-without (over (at_top h) (gather es)) (dom s) (g ∷ q))
 
 -- what stands below, where nothing stands at the top
-pub no_top : (h : Option Held) (cs : Named) (d : Content) → over (at_top h) (gather cs) ≡ d → is_some h ≡ false → gather cs ≡ d
+pub no_top : (h : Option PathValue) (cs : Named) (d : Content) → over (at_top h) (gather cs) ≡ d → is_some h ≡ false → gather cs ≡ d
 no_top None cs d view is = sym (nothing-over (gather cs)) ∙ view
 no_top (Some h) cs d view is = absurd (true≢false is)
 

@@ -7,9 +7,9 @@ use Rattle.fieldpath.specs.Paths.{PathTexts}
 use Rattle.pathmap.specs.Beside.{has_at_or_below}
 use Rattle.pathmap.specs.Contents.{Content, dom}
 use Rattle.pathmap.specs.Insides.{inside}
-use Rattle.pathmap.specs.Levels.{has_path, standing}
+use Rattle.pathmap.specs.Levels.{has_path, leaf_value}
 use Rattle.pathmap.specs.Maps.{content, content_or_nothing}
-use Rattle.pathmap.specs.declared.held.Held.{Held}
+use Rattle.pathmap.specs.declared.held.PathValue.{PathValue}
 use Rattle.pathmap.specs.declared.pathmap.PathMap.{PathMap}
 use Rattle.pathmap.proofs.Contents.{same}
 use Rattle.pathmap.proofs.Insides.{get-inside}
@@ -30,9 +30,9 @@ pub has_at : (p : PathTexts) (c d : Content) → IsAt p c d → has_at_or_below 
 has_at [] c d at = ap (λ m. has_at_or_below (dom m) []) (same c d (λ q. sym (at q)))
 has_at (g ∷ p) c d at = has_below-at g c (inside g c) (get-inside g c) p ∙ has_at p (inside g c) d (λ q. at q ∙ sym (get-inside g c (p ++ q)))
 
-pub held-map : (h : Option (Bor Held)) (m : Option Held) → option_map (λ x. x.now) h ≡ m → option_map (λ x. standing x.now) h ≡ option_map standing m
-held-map None m is = ap (option_map standing) is
-held-map (Some h) m is = ap (option_map standing) is
+pub held-map : (h : Option (Bor PathValue)) (m : Option PathValue) → option_map (λ x. x.now) h ≡ m → option_map (λ x. leaf_value x.now) h ≡ option_map leaf_value m
+held-map None m is = ap (option_map leaf_value) is
+held-map (Some h) m is = ap (option_map leaf_value) is
 
 -- ---- a child that has a path
 

@@ -14,8 +14,8 @@ use Rattle.std.proofs.lemmas.Cmp.{nat_list_cmp_total}
 use Rattle.std.proofs.lemmas.Map.Text.{is_eq-slice_cmp}
 use Rattle.std.proofs.lemmas.Slice.Eq.{bytes_eq-Decides}
 use Rattle.fieldpath.specs.Paths.{PathTexts, path_cmp}
-use Rattle.pathmap.specs.Beside.{is_front, has_at_or_below}
-use Rattle.pathmap.specs.Contents.{Standing, Content, nothing, dom}
+use Rattle.pathmap.specs.Beside.{is_prefix, has_at_or_below}
+use Rattle.pathmap.specs.Contents.{LeafValue, Content, nothing, dom}
 use Rattle.pathmap.specs.Insides.{tails, inside, heads_of, heads}
 use Rattle.pathmap.specs.Levels.{has_path}
 use Rattle.pathmap.proofs.Contents.{path_cmp_total, same, get-nothing}
@@ -26,7 +26,7 @@ use Rattle.pathmap.proofs.Trees.{ties}
 pub use Rattle.pathmap.specs.Sizes.{no_path}
 
 abbrev Entries : Type 0
-Entries = List (PathTexts × Standing)
+Entries = List (PathTexts × LeafValue)
 
 pub inside-nothing : (f : List ℕ) → inside f nothing ≡ nothing
 inside-nothing f = same (inside f nothing) nothing (λ q. get-inside f nothing q ∙ get-nothing (f ∷ q) ∙ sym (get-nothing q))
@@ -54,7 +54,7 @@ unfolding has_at_or_below
 some_path c has = by_test (has_at_or_below (dom c) []) refl
   where
     by_test : (b : Bool) → has_at_or_below (dom c) [] ≡ b → (q : PathTexts) × (is_some (fin.get c q) ≡ true)
-    by_test true h = let found = passes_some (is_front []) c h in (found.0, found.1)
+    by_test true h = let found = passes_some (is_prefix []) c h in (found.0, found.1)
     by_test false h = absurd (true≢false (sym has ∙ ap has_path (has_none c h) ∙ nothing_path))
 
 pub one_path : (c : Content) (q : PathTexts) → is_some (fin.get c q) ≡ true → has_path c ≡ true
@@ -74,7 +74,7 @@ one_head g h hs true is = by_test (bytes_eq g h) refl
     by_test true t = ap (λ f. list_any (bytes_eq f) hs) ((bytes_eq-Decides g h).0 t) ∙ is
     by_test false t = refl
 
-more_tail : (b : Bool) (x : PathTexts × Standing) (xs : Entries) → (b || is_cons xs) ≡ is_cons (cond b (x ∷ xs) xs)
+more_tail : (b : Bool) (x : PathTexts × LeafValue) (xs : Entries) → (b || is_cons xs) ≡ is_cons (cond b (x ∷ xs) xs)
 more_tail true x xs = refl
 more_tail false x xs = refl
 

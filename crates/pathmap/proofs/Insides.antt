@@ -8,25 +8,25 @@ use Rattle.std.specs.Str.{bytes_eq}
 use Rattle.std.proofs.lemmas.Cmp.{nat_list_cmp_total}
 use Rattle.std.proofs.lemmas.Map.Text.{is_eq-slice_cmp}
 use Rattle.fieldpath.specs.Paths.{PathTexts, path_cmp}
-use Rattle.pathmap.specs.Contents.{Standing, Content, nothing, over, under}
+use Rattle.pathmap.specs.Contents.{LeafValue, Content, nothing, over, under}
 use Rattle.pathmap.specs.Insides.{inside, tail_of, tails}
 use Rattle.pathmap.proofs.Contents.{get-nothing, get-over, get-under, over-nothing, path_cmp_total, same, either}
 
-one_tail : (o : Ordering) (b r : Bool) (v : Standing) (x : Option Standing) → b ≡ is_eq o → (rs : Ordering) → r ≡ is_eq rs → cond b (cond r (Some v) x) x ≡ cond (is_eq (ordering_then o rs)) (Some v) x
+one_tail : (o : Ordering) (b r : Bool) (v : LeafValue) (x : Option LeafValue) → b ≡ is_eq o → (rs : Ordering) → r ≡ is_eq rs → cond b (cond r (Some v) x) x ≡ cond (is_eq (ordering_then o rs)) (Some v) x
 one_tail Less b r v x is rs same = rw is refl
 one_tail Equal b r v x is rs same = rw (is, same) refl
 one_tail Greater b r v x is rs same = rw is refl
 
-find-cond : (b : Bool) (q : PathTexts) (e : PathTexts × Standing) (es : List (PathTexts × Standing)) → find path_cmp q (cond b (e ∷ es) es) ≡ cond b (cond (eq_by_cmp path_cmp q e.0) (Some e.1) (find path_cmp q es)) (find path_cmp q es)
+find-cond : (b : Bool) (q : PathTexts) (e : PathTexts × LeafValue) (es : List (PathTexts × LeafValue)) → find path_cmp q (cond b (e ∷ es) es) ≡ cond b (cond (eq_by_cmp path_cmp q e.0) (Some e.1) (find path_cmp q es)) (find path_cmp q es)
 find-cond true q e es = refl
 find-cond false q e es = refl
 
-find-tail_of : (f : List ℕ) (q p : PathTexts) (v : Standing) (es : List (PathTexts × Standing)) → find path_cmp q (tail_of f p v es) ≡ cond (eq_by_cmp path_cmp (f ∷ q) p) (Some v) (find path_cmp q es)
+find-tail_of : (f : List ℕ) (q p : PathTexts) (v : LeafValue) (es : List (PathTexts × LeafValue)) → find path_cmp q (tail_of f p v es) ≡ cond (eq_by_cmp path_cmp (f ∷ q) p) (Some v) (find path_cmp q es)
 find-tail_of f q [] v es = refl
 find-tail_of f q (g ∷ rest) v es = find-cond (bytes_eq f g) q (rest, v) es
     ∙ one_tail (slice_cmp nat_cmp f g) (bytes_eq f g) (eq_by_cmp path_cmp q rest) v (find path_cmp q es) (sym (is_eq-slice_cmp f g)) (path_cmp q rest) refl
 
-find-tails : (f : List ℕ) (q : PathTexts) (es : List (PathTexts × Standing)) → find path_cmp q (tails f es) ≡ find path_cmp (f ∷ q) es
+find-tails : (f : List ℕ) (q : PathTexts) (es : List (PathTexts × LeafValue)) → find path_cmp q (tails f es) ≡ find path_cmp (f ∷ q) es
 find-tails f q [] = refl
 find-tails f q (e ∷ es) = find-tail_of f q e.0 e.1 (tails f es) ∙ ap (cond (eq_by_cmp path_cmp (f ∷ q) e.0) (Some e.1)) (find-tails f q es)
 

@@ -11,10 +11,10 @@ use Rattle.std.proofs.lemmas.Map.Keys.{sorted_head, sorted_tail}
 use Rattle.std.proofs.lemmas.Map.Text.{is_eq-slice_cmp}
 use Rattle.std.proofs.lemmas.Slice.Eq.{bytes_eq-Decides}
 use Rattle.fieldpath.specs.Paths.{PathTexts, path_cmp}
-use Rattle.pathmap.specs.Contents.{Standing, Content, nothing, here, under, over, gather}
-use Rattle.pathmap.specs.Levels.{at_top, standing, has_path, is_more, IsRising, AreFull, child_of}
+use Rattle.pathmap.specs.Contents.{LeafValue, Content, nothing, here, under, over, gather}
+use Rattle.pathmap.specs.Levels.{at_top, leaf_value, has_path, is_more, IsRising, AreFull, child_of}
 use Rattle.pathmap.specs.Maps.{content_or_nothing, contents_in, either_top}
-use Rattle.pathmap.specs.declared.held.Held.{Held}
+use Rattle.pathmap.specs.declared.held.PathValue.{PathValue}
 use Rattle.pathmap.proofs.Contents.{path_cmp_total, same, either, either-None, get-nothing, get-over, get-under, get-under-top, get-here-below, nothing-over}
 
 abbrev Named : Type 0
@@ -23,7 +23,7 @@ Named = List (List ℕ × Content)
 abbrev cmp : List ℕ → List ℕ → Ordering
 cmp = slice_cmp nat_cmp
 
-pub get-here-top : (v : Standing) → fin.get (here v) [] ≡ Some v
+pub get-here-top : (v : LeafValue) → fin.get (here v) [] ≡ Some v
 unfolding here
 get-here-top v = fin.get-insert path_cmp_total nothing [] v []
 
@@ -31,13 +31,13 @@ pub get-gather-top : (cs : Named) → fin.get (gather cs) [] ≡ None
 get-gather-top [] = get-nothing []
 get-gather-top (c ∷ cs) = get-over (under c.0 c.1) (gather cs) [] ∙ ap₂ either (get-under-top c.0 c.1) (get-gather-top cs)
 
-pub get-at_top-below : (h : Option Held) (g : List ℕ) (q : PathTexts) → fin.get (at_top h) (g ∷ q) ≡ None
+pub get-at_top-below : (h : Option PathValue) (g : List ℕ) (q : PathTexts) → fin.get (at_top h) (g ∷ q) ≡ None
 get-at_top-below None g q = get-nothing (g ∷ q)
-get-at_top-below (Some h) g q = get-here-below (standing h) g q
+get-at_top-below (Some h) g q = get-here-below (leaf_value h) g q
 
-get-at_top-top : (h : Option Held) → fin.get (at_top h) [] ≡ option_map standing h
+get-at_top-top : (h : Option PathValue) → fin.get (at_top h) [] ≡ option_map leaf_value h
 get-at_top-top None = get-nothing []
-get-at_top-top (Some h) = get-here-top (standing h)
+get-at_top-top (Some h) = get-here-top (leaf_value h)
 
 -- nothing stands below a name that is before all of them
 pub outside : (f : List ℕ) (cs : Named) → AllByRecursion (λ y. cmp f y ≡ Less) (map (λ c. c.0) cs) → (q : PathTexts) → fin.get (gather cs) (f ∷ q) ≡ None
@@ -67,8 +67,8 @@ get-child g (c ∷ cs) rising q = get-over (under c.0 c.1) (gather cs) (g ∷ q)
         ∙ ap (either (fin.get c.1 q)) (outside c.0 cs (sorted_head cmp c.0 (map (λ c. c.0) cs) rising) q) ∙ either-None (fin.get c.1 q)
     by_test later false is = ap (λ b. either (cond b (fin.get c.1 q) None) (fin.get (gather cs) (g ∷ q))) (turned false is) ∙ later
 
-module _ (h : Option Held) (cs : Named) where
-  pub get-level-top : fin.get (over (at_top h) (gather cs)) [] ≡ option_map standing h
+module _ (h : Option PathValue) (cs : Named) where
+  pub get-level-top : fin.get (over (at_top h) (gather cs)) [] ≡ option_map leaf_value h
   get-level-top = get-over (at_top h) (gather cs) [] ∙ ap (either (fin.get (at_top h) [])) (get-gather-top cs) ∙ either-None (fin.get (at_top h) []) ∙ get-at_top-top h
 
   pub get-level-gather : (g : List ℕ) (q : PathTexts) → fin.get (over (at_top h) (gather cs)) (g ∷ q) ≡ fin.get (gather cs) (g ∷ q)
@@ -83,7 +83,7 @@ no_entries (x ∷ xs) e = absurd (omega arith)
 
 -- ---- maps of no path
 
-pub held_some : (h : Option Held) → is_some (option_map standing h) ≡ is_some h
+pub held_some : (h : Option PathValue) → is_some (option_map leaf_value h) ≡ is_some h
 held_some None = refl
 held_some (Some h) = refl
 
@@ -105,7 +105,7 @@ pub under_nothing : (f : List ℕ) (c : Content) → under f c ≡ nothing → c
 under_nothing f c e = same c nothing (λ q.
     ap (λ o. cond (is_eq o) (fin.get c q) None) (sym (tied_itself nat_list_cmp_total f)) ∙ sym (get-under f c f q) ∙ ap (λ m. fin.get m (f ∷ q)) e ∙ get-nothing (f ∷ q) ∙ sym (get-nothing q))
 
-none : (b : Bool) → cond b None (let o : Option Standing = None in o) ≡ None
+none : (b : Bool) → cond b None (let o : Option LeafValue = None in o) ≡ None
 none true = refl
 none false = refl
 
@@ -117,31 +117,31 @@ under-nothing f = same (under f nothing) nothing by_path
     by_path (g ∷ q) = get-under f nothing g q ∙ ap (λ o. cond (is_eq (slice_cmp nat_cmp g f)) o None) (get-nothing q) ∙ none (is_eq (slice_cmp nat_cmp g f)) ∙ sym (get-nothing (g ∷ q))
 
 pub nothing_path : has_path nothing ≡ false
-nothing_path = ap is_more (fin.len-empty path_cmp Standing)
+nothing_path = ap is_more (fin.len-empty path_cmp LeafValue)
 
-pub bare_level : (h : Option Held) (cs : Named) → is_some h ≡ false → cs ≡ [] → over (at_top h) (gather cs) ≡ nothing
+pub bare_level : (h : Option PathValue) (cs : Named) → is_some h ≡ false → cs ≡ [] → over (at_top h) (gather cs) ≡ nothing
 bare_level None cs top no_child = nothing-over (gather cs) ∙ ap gather no_child
 bare_level (Some h) cs top no_child = absurd (true≢false top)
 
-pub bare_held : (h : Option Held) (cs : Named) → over (at_top h) (gather cs) ≡ nothing → is_some h ≡ false
+pub bare_held : (h : Option PathValue) (cs : Named) → over (at_top h) (gather cs) ≡ nothing → is_some h ≡ false
 bare_held h cs e = sym (held_some h) ∙ ap is_some (sym (get-level-top h cs) ∙ ap (λ c. fin.get c []) e ∙ get-nothing [])
 
-pub bare_below : (h : Option Held) (cs : Named) → AreFull cs → over (at_top h) (gather cs) ≡ nothing → cs ≡ []
+pub bare_below : (h : Option PathValue) (cs : Named) → AreFull cs → over (at_top h) (gather cs) ≡ nothing → cs ≡ []
 bare_below h [] full e = refl
 bare_below h (c ∷ cs) full e =
     absurd (true≢false (sym full.0 ∙ ap has_path (under_nothing c.0 c.1 (nothing_left (under c.0 c.1) (gather cs) (nothing_right (at_top h) (gather (c ∷ cs)) e))) ∙ nothing_path))
 
 -- ---- one level over another
 
-over_top : (t m : Option Held) → fin.get (either_top t m) [] ≡ either (fin.get (at_top t) []) (fin.get (at_top m) [])
+over_top : (t m : Option PathValue) → fin.get (either_top t m) [] ≡ either (fin.get (at_top t) []) (fin.get (at_top m) [])
 over_top None m = sym (ap (λ a. either a (fin.get (at_top m) [])) (get-nothing []))
-over_top (Some t) m = get-here-top (standing t) ∙ sym (ap (λ a. either a (fin.get (at_top m) [])) (get-here-top (standing t)))
+over_top (Some t) m = get-here-top (leaf_value t) ∙ sym (ap (λ a. either a (fin.get (at_top m) [])) (get-here-top (leaf_value t)))
 
-below_either : (t m : Option Held) (g : List ℕ) (q : PathTexts) → fin.get (either_top t m) (g ∷ q) ≡ None
+below_either : (t m : Option PathValue) (g : List ℕ) (q : PathTexts) → fin.get (either_top t m) (g ∷ q) ≡ None
 below_either None m g q = get-at_top-below m g q
 below_either (Some t) m g q = get-at_top-below (Some t) g q
 
-module _ (t m : Option Held) (ts ms : Named) where
+module _ (t m : Option PathValue) (ts ms : Named) where
   level_by : (q : PathTexts) → fin.get (over (either_top t m) (over (gather ts) (gather ms))) q ≡ fin.get (over (over (at_top t) (gather ts)) (over (at_top m) (gather ms))) q
   level_by [] =
       get-over (either_top t m) (over (gather ts) (gather ms)) []

@@ -7,7 +7,7 @@ pub mod Insides
 pub mod Heads
 pub mod Children
 pub mod Merging
-pub mod Fronts
+pub mod Prefixes
 pub mod Order
 pub mod Listing
 pub mod Picking

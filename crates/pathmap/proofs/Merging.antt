@@ -14,7 +14,7 @@ use Rattle.fieldpath.specs.Paths.{PathTexts}
 use Rattle.pathmap.specs.Contents.{Content, over, gather}
 use Rattle.pathmap.specs.Levels.{has_path, IsRising, AreFull, AreChildren, child_of}
 use Rattle.pathmap.specs.Maps.{content_or_nothing}
-use Rattle.pathmap.specs.Merged.{first_of, front_of, back_of, join_on, left_of, merged}
+use Rattle.pathmap.specs.Merged.{first_of, prefix_of, back_of, join_on, left_of, merged}
 use Rattle.pathmap.specs.Sizes.{left_some}
 use Rattle.pathmap.proofs.Contents.{same, either, either-cond, either-None, get-nothing, get-over}
 use Rattle.pathmap.proofs.Heads.{some_path, one_path}
@@ -78,34 +78,34 @@ child-append : (g : List ℕ) (xs ys : Named) → child_of g (xs ++ ys) ≡ eith
 child-append g [] ys = refl
 child-append g (x ∷ xs) ys = ap (cond (bytes_eq x.0 g) (Some x.1)) (child-append g xs ys) ∙ sym (either-cond (bytes_eq x.0 g) x.1 (child_of g xs) (child_of g ys))
 
-front_none : (f g : List ℕ) (ms : Named) → is_lt (cmp g f) ≡ false → child_of g (front_of f ms) ≡ None
-front_none f g [] not_less = refl
-front_none f g (m ∷ ms) not_less = by_test (front_none f g ms not_less) (is_lt (cmp m.0 f)) refl
+prefix_none : (f g : List ℕ) (ms : Named) → is_lt (cmp g f) ≡ false → child_of g (prefix_of f ms) ≡ None
+prefix_none f g [] not_less = refl
+prefix_none f g (m ∷ ms) not_less = by_test (prefix_none f g ms not_less) (is_lt (cmp m.0 f)) refl
   where
     apart : is_lt (cmp m.0 f) ≡ true → (b : Bool) → bytes_eq m.0 g ≡ b → b ≡ false
     apart lt false is = refl
     apart lt true is = absurd (true≢false (sym lt ∙ ap (λ k. is_lt (cmp k f)) ((bytes_eq-Decides m.0 g).0 is) ∙ not_less))
 
-    by_test : child_of g (front_of f ms) ≡ None → (b : Bool) → is_lt (cmp m.0 f) ≡ b → child_of g (cond b (m ∷ front_of f ms) []) ≡ None
-    by_test later true lt = ap (λ b. cond b (Some m.1) (child_of g (front_of f ms))) (apart lt (bytes_eq m.0 g) refl) ∙ later
+    by_test : child_of g (prefix_of f ms) ≡ None → (b : Bool) → is_lt (cmp m.0 f) ≡ b → child_of g (cond b (m ∷ prefix_of f ms) []) ≡ None
+    by_test later true lt = ap (λ b. cond b (Some m.1) (child_of g (prefix_of f ms))) (apart lt (bytes_eq m.0 g) refl) ∙ later
     by_test later false lt = refl
 
 -- a name that isn't below another is above what is below that
-above_front : (g f : List ℕ) (m : List ℕ × Content) (ms : Named) → cmp g f ≡ Less → is_lt (cmp m.0 f) ≡ false → Above m.0 ms → Above g (m ∷ ms)
-above_front g f m ms lt not_less above = by_order (cmp f m.0) refl
+above_prefix : (g f : List ℕ) (m : List ℕ × Content) (ms : Named) → cmp g f ≡ Less → is_lt (cmp m.0 f) ≡ false → Above m.0 ms → Above g (m ∷ ms)
+above_prefix g f m ms lt not_less above = by_order (cmp f m.0) refl
   where
     by_order : (o : Ordering) → cmp f m.0 ≡ o → Above g (m ∷ ms)
     by_order Less e = let first = nat_list_cmp_total.trans g f m.0 lt e in (first, after_all g m.0 ms first above)
     by_order Equal e = let first = subst (λ k. cmp g k ≡ Less) (ties f m.0 (ap is_eq e)) lt in (first, after_all g m.0 ms first above)
     by_order Greater e = absurd (true≢false (sym (ap is_lt (reversed m.0 f Greater e)) ∙ not_less))
 
-front_same : (f g : List ℕ) (ms : Named) → IsRising ms → cmp g f ≡ Less → child_of g (front_of f ms) ≡ child_of g ms
-front_same f g [] rises lt = refl
-front_same f g (m ∷ ms) rises lt = by_test (front_same f g ms (tail_of m ms rises) lt) (is_lt (cmp m.0 f)) refl
+prefix_same : (f g : List ℕ) (ms : Named) → IsRising ms → cmp g f ≡ Less → child_of g (prefix_of f ms) ≡ child_of g ms
+prefix_same f g [] rises lt = refl
+prefix_same f g (m ∷ ms) rises lt = by_test (prefix_same f g ms (tail_of m ms rises) lt) (is_lt (cmp m.0 f)) refl
   where
-    by_test : child_of g (front_of f ms) ≡ child_of g ms → (b : Bool) → is_lt (cmp m.0 f) ≡ b → child_of g (cond b (m ∷ front_of f ms) []) ≡ child_of g (m ∷ ms)
+    by_test : child_of g (prefix_of f ms) ≡ child_of g ms → (b : Bool) → is_lt (cmp m.0 f) ≡ b → child_of g (cond b (m ∷ prefix_of f ms) []) ≡ child_of g (m ∷ ms)
     by_test later true is = ap (cond (bytes_eq m.0 g) (Some m.1)) later
-    by_test later false is = sym (child_above g (m ∷ ms) (above_front g f m ms lt is (head_of m ms rises)))
+    by_test later false is = sym (child_above g (m ∷ ms) (above_prefix g f m ms lt is (head_of m ms rises)))
 
 back_same : (f g : List ℕ) (ms : Named) → is_lt (cmp g f) ≡ false → child_of g (back_of f ms) ≡ child_of g ms
 back_same f g [] not_less = refl
@@ -191,11 +191,11 @@ above-append : (k : List ℕ) (xs ys : Named) → Above k xs → Above k ys → 
 above-append k [] ys a b = b
 above-append k (x ∷ xs) ys a b = (a.0, above-append k xs ys a.1 b)
 
-above-front : (k f : List ℕ) (ms : Named) → Above k ms → Above k (front_of f ms)
-above-front k f [] a = tt
-above-front k f (m ∷ ms) a = by_test (above-front k f ms a.1) (is_lt (cmp m.0 f))
+above-prefix : (k f : List ℕ) (ms : Named) → Above k ms → Above k (prefix_of f ms)
+above-prefix k f [] a = tt
+above-prefix k f (m ∷ ms) a = by_test (above-prefix k f ms a.1) (is_lt (cmp m.0 f))
   where
-    by_test : Above k (front_of f ms) → (b : Bool) → Above k (cond b (m ∷ front_of f ms) [])
+    by_test : Above k (prefix_of f ms) → (b : Bool) → Above k (cond b (m ∷ prefix_of f ms) [])
     by_test later true = (a.0, later)
     by_test later false = tt
 
@@ -215,25 +215,25 @@ above-left k f (b ∷ bs) a = by_test (bytes_eq b.0 f)
     by_test true = a.1
     by_test false = a
 
-front_then : (f : List ℕ) (x : Content) (rest ms : Named) → IsRising ms → Above f rest → IsRising rest → IsRising (front_of f ms ++ (f, x) ∷ rest)
-front_then f x rest [] rises above later = rising_more (f, x) rest above later
-front_then f x rest (m ∷ ms) rises above later = by_test (front_then f x rest ms (tail_of m ms rises) above later) (is_lt (cmp m.0 f)) refl
+prefix_then : (f : List ℕ) (x : Content) (rest ms : Named) → IsRising ms → Above f rest → IsRising rest → IsRising (prefix_of f ms ++ (f, x) ∷ rest)
+prefix_then f x rest [] rises above later = rising_more (f, x) rest above later
+prefix_then f x rest (m ∷ ms) rises above later = by_test (prefix_then f x rest ms (tail_of m ms rises) above later) (is_lt (cmp m.0 f)) refl
   where
-    by_test : IsRising (front_of f ms ++ (f, x) ∷ rest) → (b : Bool) → is_lt (cmp m.0 f) ≡ b → IsRising (cond b (m ∷ front_of f ms) [] ++ (f, x) ∷ rest)
+    by_test : IsRising (prefix_of f ms ++ (f, x) ∷ rest) → (b : Bool) → is_lt (cmp m.0 f) ≡ b → IsRising (cond b (m ∷ prefix_of f ms) [] ++ (f, x) ∷ rest)
     by_test others true is =
         let lt = less_is (cmp m.0 f) is in
-        rising_more m (front_of f ms ++ (f, x) ∷ rest) (above-append m.0 (front_of f ms) ((f, x) ∷ rest) (above-front m.0 f ms (head_of m ms rises)) (lt, after_all m.0 f rest lt above)) others
+        rising_more m (prefix_of f ms ++ (f, x) ∷ rest) (above-append m.0 (prefix_of f ms) ((f, x) ∷ rest) (above-prefix m.0 f ms (head_of m ms rises)) (lt, after_all m.0 f rest lt above)) others
     by_test others false is = rising_more (f, x) rest above later
 
 full-append : (xs ys : Named) → AreFull xs → AreFull ys → AreFull (xs ++ ys)
 full-append [] ys a b = b
 full-append (x ∷ xs) ys a b = (a.0, full-append xs ys a.1 b)
 
-full-front : (f : List ℕ) (ms : Named) → AreFull ms → AreFull (front_of f ms)
-full-front f [] a = tt
-full-front f (m ∷ ms) a = by_test (full-front f ms a.1) (is_lt (cmp m.0 f))
+full-prefix : (f : List ℕ) (ms : Named) → AreFull ms → AreFull (prefix_of f ms)
+full-prefix f [] a = tt
+full-prefix f (m ∷ ms) a = by_test (full-prefix f ms a.1) (is_lt (cmp m.0 f))
   where
-    by_test : AreFull (front_of f ms) → (b : Bool) → AreFull (cond b (m ∷ front_of f ms) [])
+    by_test : AreFull (prefix_of f ms) → (b : Bool) → AreFull (cond b (m ∷ prefix_of f ms) [])
     by_test later true = (a.0, later)
     by_test later false = tt
 
@@ -288,21 +288,21 @@ module _ (j : Content → Content → Content) where
   pub child-merged : (g : List ℕ) (ts ms : Named) → IsRising ts → IsRising ms → child_of g (merged j ts ms) ≡ joined j (child_of g ts) (child_of g ms)
   child-merged g [] ms rises rises_ms = refl
   child-merged g (t ∷ ts) ms rises rises_ms =
-      child-append g (front_of t.0 ms) ((t.0, join_on j t.0 t.1 (back_of t.0 ms)) ∷ merged j ts (left_of t.0 (back_of t.0 ms)))
+      child-append g (prefix_of t.0 ms) ((t.0, join_on j t.0 t.1 (back_of t.0 ms)) ∷ merged j ts (left_of t.0 (back_of t.0 ms)))
       ∙ by_order (child-merged g ts (left_of t.0 (back_of t.0 ms)) (tail_of t ts rises) (left_rises t.0 (back_of t.0 ms) (back_rises t.0 ms rises_ms))) (cmp t.0 g) refl
     where
       by_order : child_of g (merged j ts (left_of t.0 (back_of t.0 ms))) ≡ joined j (child_of g ts) (child_of g (left_of t.0 (back_of t.0 ms))) → (o : Ordering) → cmp t.0 g ≡ o
-          → either (child_of g (front_of t.0 ms)) (cond (bytes_eq t.0 g) (Some (join_on j t.0 t.1 (back_of t.0 ms))) (child_of g (merged j ts (left_of t.0 (back_of t.0 ms))))) ≡ joined j (cond (bytes_eq t.0 g) (Some t.1) (child_of g ts)) (child_of g ms)
+          → either (child_of g (prefix_of t.0 ms)) (cond (bytes_eq t.0 g) (Some (join_on j t.0 t.1 (back_of t.0 ms))) (child_of g (merged j ts (left_of t.0 (back_of t.0 ms))))) ≡ joined j (cond (bytes_eq t.0 g) (Some t.1) (child_of g ts)) (child_of g ms)
       by_order later Less e =
           let other = apart_less t.0 g e (bytes_eq t.0 g) refl in
           let not_less = ap is_lt (reversed g t.0 Less e) in
-          ap₂ (λ o b. either o (cond b (Some (join_on j t.0 t.1 (back_of t.0 ms))) (child_of g (merged j ts (left_of t.0 (back_of t.0 ms)))))) (front_none t.0 g ms not_less) other
+          ap₂ (λ o b. either o (cond b (Some (join_on j t.0 t.1 (back_of t.0 ms))) (child_of g (merged j ts (left_of t.0 (back_of t.0 ms)))))) (prefix_none t.0 g ms not_less) other
           ∙ later ∙ ap (joined j (child_of g ts)) (left_same t.0 g (back_of t.0 ms) other ∙ back_same t.0 g ms not_less)
           ∙ sym (ap (λ b. joined j (cond b (Some t.1) (child_of g ts)) (child_of g ms)) other)
       by_order later Equal e =
           let is = ties t.0 g (ap is_eq e) in
           let not_less = ap is_lt (reversed g t.0 Equal e) in
-          ap₂ (λ o b. either o (cond b (Some (join_on j t.0 t.1 (back_of t.0 ms))) (child_of g (merged j ts (left_of t.0 (back_of t.0 ms)))))) (front_none t.0 g ms not_less) (equal_is t.0 g e)
+          ap₂ (λ o b. either o (cond b (Some (join_on j t.0 t.1 (back_of t.0 ms))) (child_of g (merged j ts (left_of t.0 (back_of t.0 ms)))))) (prefix_none t.0 g ms not_less) (equal_is t.0 g e)
           ∙ joins t.0 t.1 ms rises_ms ∙ ap (λ k. joined j (Some t.1) (child_of k ms)) is
           ∙ sym (ap (λ b. joined j (cond b (Some t.1) (child_of g ts)) (child_of g ms)) (equal_is t.0 g e))
       by_order later Greater e =
@@ -310,21 +310,21 @@ module _ (j : Content → Content → Content) where
           let other = apart_greater t.0 g lt (bytes_eq t.0 g) refl in
           let none = child_above g ts (after_all g t.0 ts lt (head_of t ts rises)) in
           let none_left = child_above g (left_of t.0 (back_of t.0 ms)) (after_all g t.0 (left_of t.0 (back_of t.0 ms)) lt (left_above t.0 ms rises_ms)) in
-          ap₂ (λ o b. either o (cond b (Some (join_on j t.0 t.1 (back_of t.0 ms))) (child_of g (merged j ts (left_of t.0 (back_of t.0 ms)))))) (front_same t.0 g ms rises_ms lt) other
+          ap₂ (λ o b. either o (cond b (Some (join_on j t.0 t.1 (back_of t.0 ms))) (child_of g (merged j ts (left_of t.0 (back_of t.0 ms)))))) (prefix_same t.0 g ms rises_ms lt) other
           ∙ ap (either (child_of g ms)) (later ∙ ap₂ (joined j) none none_left) ∙ either-None (child_of g ms)
           ∙ sym (ap (λ b. joined j (cond b (Some t.1) (child_of g ts)) (child_of g ms)) other ∙ ap (λ o. joined j o (child_of g ms)) none)
 
   above-merged : (k : List ℕ) (ts ms : Named) → Above k ts → Above k ms → Above k (merged j ts ms)
   above-merged k [] ms a b = b
   above-merged k (t ∷ ts) ms a b =
-      above-append k (front_of t.0 ms) ((t.0, join_on j t.0 t.1 (back_of t.0 ms)) ∷ merged j ts (left_of t.0 (back_of t.0 ms))) (above-front k t.0 ms b)
+      above-append k (prefix_of t.0 ms) ((t.0, join_on j t.0 t.1 (back_of t.0 ms)) ∷ merged j ts (left_of t.0 (back_of t.0 ms))) (above-prefix k t.0 ms b)
       (a.0, above-merged k ts (left_of t.0 (back_of t.0 ms)) a.1 (above-left k t.0 (back_of t.0 ms) (above-back k t.0 ms b)))
 
   merged_rises : (ts ms : Named) → IsRising ts → IsRising ms → IsRising (merged j ts ms)
   merged_rises [] ms rises rises_ms = rises_ms
   merged_rises (t ∷ ts) ms rises rises_ms =
       let left = left_of t.0 (back_of t.0 ms) in
-      front_then t.0 (join_on j t.0 t.1 (back_of t.0 ms)) (merged j ts left) ms rises_ms (above-merged t.0 ts left (head_of t ts rises) (left_above t.0 ms rises_ms))
+      prefix_then t.0 (join_on j t.0 t.1 (back_of t.0 ms)) (merged j ts left) ms rises_ms (above-merged t.0 ts left (head_of t ts rises) (left_above t.0 ms rises_ms))
       (merged_rises ts left (tail_of t ts rises) (left_rises t.0 (back_of t.0 ms) (back_rises t.0 ms rises_ms)))
 
   module _ (keeps : (c d : Content) → has_path c ≡ true → has_path (j c d) ≡ true) where
@@ -339,7 +339,7 @@ module _ (j : Content → Content → Content) where
     merged_full : (ts ms : Named) → AreFull ts → AreFull ms → AreFull (merged j ts ms)
     merged_full [] ms a b = b
     merged_full (t ∷ ts) ms a b =
-        full-append (front_of t.0 ms) ((t.0, join_on j t.0 t.1 (back_of t.0 ms)) ∷ merged j ts (left_of t.0 (back_of t.0 ms))) (full-front t.0 ms b)
+        full-append (prefix_of t.0 ms) ((t.0, join_on j t.0 t.1 (back_of t.0 ms)) ∷ merged j ts (left_of t.0 (back_of t.0 ms))) (full-prefix t.0 ms b)
         (join_full t.0 t.1 (back_of t.0 ms) a.0, merged_full ts (left_of t.0 (back_of t.0 ms)) a.1 (full-left t.0 (back_of t.0 ms) (full-back t.0 ms b)))
 
     pub merged_children : (ts ms : Named) → AreChildren ts → AreChildren ms → AreChildren (merged j ts ms)

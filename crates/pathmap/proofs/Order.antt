@@ -16,10 +16,10 @@ use Rattle.std.proofs.lemmas.Cmp.{nat_list_cmp_total}
 use Rattle.std.proofs.lemmas.List.Folds.{list_any-append}
 use Rattle.std.proofs.lemmas.Map.Keys.{sorted_head, sorted_tail}
 use Rattle.fieldpath.specs.Paths.{PathTexts, path_cmp}
-use Rattle.pathmap.specs.Contents.{Standing, mark, Content, PathSet, nothing, under, over, gather, dom, marked, in_order}
+use Rattle.pathmap.specs.Contents.{LeafValue, mark, Content, PathSet, nothing, under, over, gather, dom, marked, in_order}
 use Rattle.pathmap.specs.Levels.{at_top, IsRising, child_of}
 use Rattle.pathmap.specs.Maps.{content_or_nothing}
-use Rattle.pathmap.specs.declared.held.Held.{Held}
+use Rattle.pathmap.specs.declared.held.PathValue.{PathValue}
 use Rattle.pathmap.proofs.Contents.{path_cmp_total, path_cmp_antisymmetric, either, get-nothing, get-over, get-under, get-under-top}
 use Rattle.pathmap.proofs.Heads.{first, second}
 use Rattle.pathmap.proofs.Levels.{get-child, get-gather-top, get-level-gather, get-level-top, held_some}
@@ -71,11 +71,11 @@ is_less Less h = refl
 is_less Equal h = absurd h
 is_less Greater h = absurd h
 
-below_keys : (x : PathTexts) (es : List (PathTexts × Standing)) → T (below_all path_cmp x es) → AllByRecursion (λ y. path_cmp x y ≡ Less) (map (λ e. e.0) es)
+below_keys : (x : PathTexts) (es : List (PathTexts × LeafValue)) → T (below_all path_cmp x es) → AllByRecursion (λ y. path_cmp x y ≡ Less) (map (λ e. e.0) es)
 below_keys x [] h = tt
 below_keys x (e ∷ es) h = (is_less (path_cmp x e.0) (first (is_lt (path_cmp x e.0)) (below_all path_cmp x es) h), below_keys x es (second (is_lt (path_cmp x e.0)) (below_all path_cmp x es) h))
 
-sorted_keys : (es : List (PathTexts × Standing)) → T (is_sorted path_cmp es) → IsStrictlySortedBy path_cmp (map (λ e. e.0) es)
+sorted_keys : (es : List (PathTexts × LeafValue)) → T (is_sorted path_cmp es) → IsStrictlySortedBy path_cmp (map (λ e. e.0) es)
 unfolding IsStrictlySortedBy
 sorted_keys [] h = tt
 sorted_keys (e ∷ es) h = (below_keys e.0 es (first (below_all path_cmp e.0 es) (is_sorted path_cmp es) h), sorted_keys es (second (below_all path_cmp e.0 es) (is_sorted path_cmp es) h))
@@ -136,12 +136,12 @@ ascend_first : (xs : List PathTexts) → AllByRecursion (λ y. path_cmp [] y ≡
 unfolding IsStrictlySortedBy
 ascend_first xs h k = (h, k)
 
-same_front : (f : List ℕ) (p q : PathTexts) → path_cmp (f ∷ p) (f ∷ q) ≡ path_cmp p q
-same_front f p q = ap (λ o. ordering_then o (path_cmp p q)) (tied_itself nat_list_cmp_total f)
+same_prefix : (f : List ℕ) (p q : PathTexts) → path_cmp (f ∷ p) (f ∷ q) ≡ path_cmp p q
+same_prefix f p q = ap (λ o. ordering_then o (path_cmp p q)) (tied_itself nat_list_cmp_total f)
 
 all_under : (f : List ℕ) (p : PathTexts) (xs : List PathTexts) → AllByRecursion (λ y. path_cmp p y ≡ Less) xs → AllByRecursion (λ y. path_cmp (f ∷ p) y ≡ Less) (map (λ q. f ∷ q) xs)
 all_under f p [] h = tt
-all_under f p (x ∷ xs) h = (same_front f p x ∙ h.0, all_under f p xs h.1)
+all_under f p (x ∷ xs) h = (same_prefix f p x ∙ h.0, all_under f p xs h.1)
 
 ascend_under : (f : List ℕ) (xs : List PathTexts) → IsStrictlySortedBy path_cmp xs → IsStrictlySortedBy path_cmp (map (λ q. f ∷ q) xs)
 unfolding IsStrictlySortedBy
@@ -177,7 +177,7 @@ members_under f c (g ∷ r) = any_under f g r (in_order (dom c)) ∙ ap (λ b. i
     by_tie true = refl
     by_tie false = refl
 
-some_either : (a b : Option Standing) → (is_some a || is_some b) ≡ is_some (either a b)
+some_either : (a b : Option LeafValue) → (is_some a || is_some b) ≡ is_some (either a b)
 some_either None b = refl
 some_either (Some v) b = refl
 
@@ -213,11 +213,11 @@ module _ (e : List ℕ × Content) (es : List (List ℕ × Content)) (sorted : I
       ∙ sym (list_any-append (eq_by_cmp path_cmp q) mine rest ∙ ap₂ (λ a b. a || b) (members_under (e.0) e.1 q) (members (gather es) q)
       ∙ some_either (fin.get (under (e.0) e.1) q) (fin.get (gather es) q)))
 
-abbrev pub tops : Option Held → List PathTexts
+abbrev pub tops : Option PathValue → List PathTexts
 tops h = cond (is_some h) ([] ∷ []) []
 
 -- the empty path, then those below
-pub in_order-level : (h : Option Held) (es : List (List ℕ × Content)) → in_order (dom (over (at_top h) (gather es))) ≡ tops h ++ in_order (dom (gather es))
+pub in_order-level : (h : Option PathValue) (es : List (List ℕ × Content)) → in_order (dom (over (at_top h) (gather es))) ≡ tops h ++ in_order (dom (gather es))
 in_order-level h es =
     let rest = in_order (dom (gather es)) in
     same_in_order (in_order (dom (over (at_top h) (gather es)))) (tops h ++ rest) (ascend (over (at_top h) (gather es))) (rising (is_some h))

@@ -5,12 +5,12 @@ use Rattle.std.specs.FinMap as fin
 use Rattle.std.specs.List.{AllByRecursion}
 use Rattle.std.proofs.lemmas.Map.Keys.{sorted_head, sorted_tail}
 use Rattle.fieldpath.specs.Paths.{PathTexts}
-use Rattle.pathmap.specs.Contents.{Standing, Content, nothing, over, under, gather}
+use Rattle.pathmap.specs.Contents.{LeafValue, Content, nothing, over, under, gather}
 use Rattle.pathmap.specs.Insides.{inside}
 use Rattle.pathmap.specs.Levels.{at_top, has_path, IsRising, AreFull, AreChildren}
 use Rattle.pathmap.specs.Maps.{contents_in}
 use Rattle.pathmap.specs.Parted.{has, is_in, part_of, rest_of, children_in, children_outside, AreFree}
-use Rattle.pathmap.specs.declared.held.Held.{Held}
+use Rattle.pathmap.specs.declared.held.PathValue.{PathValue}
 use Rattle.pathmap.specs.declared.parts.Part.{Part}
 use Rattle.pathmap.proofs.Contents.{path_cmp_antisymmetric, same, either, get-nothing, get-over, get-under, nothing-over, over-nothing, over-over}
 use Rattle.pathmap.proofs.Insides.{get-inside, inside_after}
@@ -36,17 +36,17 @@ get-rest part name c q = fin.get-retain_keys c (λ p. not (is_in part name p)) q
 
 -- ---- children by a test of their names
 
-kept : (b t : Bool) (x rest : Option Standing) → (t ≡ true → b ≡ true) → either (cond t x None) (cond b rest None) ≡ cond b (either (cond t x None) rest) None
+kept : (b t : Bool) (x rest : Option LeafValue) → (t ≡ true → b ≡ true) → either (cond t x None) (cond b rest None) ≡ cond b (either (cond t x None) rest) None
 kept true t x rest h = refl
 kept false true x rest h = absurd (true≢false (sym (h refl)))
 kept false false x rest h = refl
 
-left : (b t : Bool) (x rest : Option Standing) → (t ≡ true → b ≡ false) → cond b rest None ≡ cond b (either (cond t x None) rest) None
+left : (b t : Bool) (x rest : Option LeafValue) → (t ≡ true → b ≡ false) → cond b rest None ≡ cond b (either (cond t x None) rest) None
 left false t x rest h = refl
 left true false x rest h = refl
 left true true x rest h = absurd (true≢false (h refl))
 
-none_either_way : (b : Bool) → cond b None (let o : Option Standing = None in o) ≡ None
+none_either_way : (b : Bool) → cond b None (let o : Option LeafValue = None in o) ≡ None
 none_either_way true = refl
 none_either_way false = refl
 
@@ -110,7 +110,7 @@ module _ (w : List ℕ → Bool) where
 
 module _ (part : Part) (name : List ℕ) where
   -- the children in the part, with nothing at the top
-  pub part-level : (h : Option Held) (cs : Named) (c : Content) → over (at_top h) (gather cs) ≡ c → over (at_top None) (gather (children_in part name cs)) ≡ part_of part name c
+  pub part-level : (h : Option PathValue) (cs : Named) (c : Content) → over (at_top h) (gather cs) ≡ c → over (at_top None) (gather (children_in part name cs)) ≡ part_of part name c
   part-level h cs c view = same (over (at_top None) (gather (children_in part name cs))) (part_of part name c) by_path
     where
       by_path : (q : PathTexts) → fin.get (over (at_top None) (gather (children_in part name cs))) q ≡ fin.get (part_of part name c) q
@@ -120,7 +120,7 @@ module _ (part : Part) (name : List ℕ) where
           ∙ sym (get-part part name c (g ∷ q) ∙ ap (λ o. cond (has part name g) o None) (ap (λ d. fin.get d (g ∷ q)) (sym view) ∙ get-level-gather h cs g q))
 
   -- the part, beside what another map has at the top and outside of the part
-  pub beside-level : (c d : Content) (h k l : Option Held) (ms ts : Named) → over (at_top k) (gather ts) ≡ d → at_top h ≡ at_top k
+  pub beside-level : (c d : Content) (h k l : Option PathValue) (ms ts : Named) → over (at_top k) (gather ts) ≡ d → at_top h ≡ at_top k
       → over (at_top l) (gather ms) ≡ over (part_of part name c) (gather (children_outside part name ts)) → over (at_top h) (gather ms) ≡ over (part_of part name c) (rest_of part name d)
   beside-level c d h k l ms ts view top below = same (over (at_top h) (gather ms)) (over (part_of part name c) (rest_of part name d)) by_path
     where

@@ -10,13 +10,13 @@ use Rattle.std.proofs.lemmas.List.{append_assoc}
 use Rattle.std.proofs.lemmas.Map.Keys.{sorted_head, sorted_tail}
 use Rattle.std.proofs.lemmas.Slice.Eq.{bytes_eq-Decides}
 use Rattle.fieldpath.specs.Paths.{PathTexts}
-use Rattle.pathmap.specs.Contents.{Standing, mark, Content, PathSet, nothing, over, gather, dom, marked}
+use Rattle.pathmap.specs.Contents.{LeafValue, mark, Content, PathSet, nothing, over, gather, dom, marked}
 use Rattle.pathmap.specs.Beside.{same_value, has_at_or_below, is_empty}
 use Rattle.pathmap.specs.Insides.{inside}
-use Rattle.pathmap.specs.Levels.{at_top, standing, has_path, IsRising, AreFull, AreChildren, child_of}
+use Rattle.pathmap.specs.Levels.{at_top, leaf_value, has_path, IsRising, AreFull, AreChildren, child_of}
 use Rattle.pathmap.specs.Maps.{content_or_nothing}
 use Rattle.pathmap.specs.Picks.{kept, no_child, picked, picked_in, picks, picks_alone, picks_some}
-use Rattle.pathmap.specs.declared.held.Held.{Held}
+use Rattle.pathmap.specs.declared.held.PathValue.{PathValue}
 use Rattle.pathmap.specs.declared.pick.Rule.{Rule}
 use Rattle.pathmap.specs.declared.pick.Rule.TheVariants.{Absent, Present, Changed, Clear}
 use Rattle.pathmap.proofs.Contents.{path_cmp_total, same, get-nothing}
@@ -33,18 +33,18 @@ twice true = refl
 twice false = refl
 
 -- what stands at the top of one level
-pub top_is : (h : Option Held) (cs : List (List ℕ × Content)) (d : Content) → over (at_top h) (gather cs) ≡ d → fin.get d [] ≡ option_map standing h
+pub top_is : (h : Option PathValue) (cs : List (List ℕ × Content)) (d : Content) → over (at_top h) (gather cs) ≡ d → fin.get d [] ≡ option_map leaf_value h
 top_is h cs d view = ap (λ m. fin.get m []) (sym view) ∙ get-level-top h cs
 
-pub picks-Absent : (h : Option Held) (cs : List (List ℕ × Content)) (d : Content) → over (at_top h) (gather cs) ≡ d → (r : Bool) → is_some h ≡ not r → r ≡ not (is_some (fin.get d []))
+pub picks-Absent : (h : Option PathValue) (cs : List (List ℕ × Content)) (d : Content) → over (at_top h) (gather cs) ≡ d → (r : Bool) → is_some h ≡ not r → r ≡ not (is_some (fin.get d []))
 picks-Absent h cs d view r is = twice r ∙ ap not (sym (ap is_some (top_is h cs d view) ∙ held_some h ∙ is))
 
-pub picks-Present : (h : Option Held) (cs : List (List ℕ × Content)) (d : Content) → over (at_top h) (gather cs) ≡ d → (r : Bool) → r ≡ is_some h → r ≡ is_some (fin.get d [])
+pub picks-Present : (h : Option PathValue) (cs : List (List ℕ × Content)) (d : Content) → over (at_top h) (gather cs) ≡ d → (r : Bool) → r ≡ is_some h → r ≡ is_some (fin.get d [])
 picks-Present h cs d view r is = is ∙ sym (ap is_some (top_is h cs d view) ∙ held_some h)
 
-pub picks-Changed : (h : Option Held) (cs : List (List ℕ × Content)) (d : Content) → over (at_top h) (gather cs) ≡ d → (mine : Held) (theirs : Option Held) → h ≡ theirs
-    → not (same_value (Some (standing mine)) (option_map standing theirs)) ≡ not (same_value (Some (standing mine)) (fin.get d []))
-picks-Changed h cs d view mine theirs is = ap (λ o. not (same_value (Some (standing mine)) o)) (sym (top_is h cs d view ∙ ap (option_map standing) is))
+pub picks-Changed : (h : Option PathValue) (cs : List (List ℕ × Content)) (d : Content) → over (at_top h) (gather cs) ≡ d → (mine : PathValue) (theirs : Option PathValue) → h ≡ theirs
+    → not (same_value (Some (leaf_value mine)) (option_map leaf_value theirs)) ≡ not (same_value (Some (leaf_value mine)) (fin.get d []))
+picks-Changed h cs d view mine theirs is = ap (λ o. not (same_value (Some (leaf_value mine)) o)) (sym (top_is h cs d view ∙ ap (option_map leaf_value) is))
 
 pub picks-Clear : (n : Content) (r : Bool) → (r ≡ true → n ≡ nothing) → (n ≡ nothing → r ≡ true) → r ≡ not (has_at_or_below (dom n) [])
 picks-Clear n true bare back = ap not (sym (ap (λ c. has_at_or_below (dom c) []) (bare refl) ∙ nothing-has))
@@ -54,7 +54,7 @@ picks-Clear n false bare back = ap not (by_answer (has_at_or_below (dom n) []) r
     by_answer true h = refl
     by_answer false h = absurd (true≢false (sym (back (has_none n h))))
 
-pub picks-nothing : (rule : Rule) (v : Standing) → picks rule v nothing ≡ picks_alone rule
+pub picks-nothing : (rule : Rule) (v : LeafValue) → picks rule v nothing ≡ picks_alone rule
 picks-nothing Absent v = ap (λ o. not (is_some o)) (get-nothing [])
 picks-nothing Present v = ap is_some (get-nothing [])
 picks-nothing Changed v = ap (λ o. not (same_value (Some v) o)) (get-nothing [])
@@ -63,7 +63,7 @@ picks-nothing Clear v = ap not nothing-has
 -- ---- path by path
 
 -- whether the rule picks p, where o stands, beside d
-abbrev pub decides : Rule → Option Standing → Content → PathTexts → Bool
+abbrev pub decides : Rule → Option LeafValue → Content → PathTexts → Bool
 decides Absent o d p = is_some o && not (is_some (fin.get d p))
 decides Present o d p = is_some o && is_some (fin.get d p)
 decides Changed o d p = is_some o && not (same_value o (fin.get d p))
@@ -75,7 +75,7 @@ contains-picked Present c d p = set.contains-intersection path_cmp_total (dom c)
 contains-picked Changed c d p = contains-changed c d p
 contains-picked Clear c d p = contains-clear_of (dom c) (dom d) p ∙ ap (λ b. b && not (has_at_or_below (dom d) p)) (contains-dom c p)
 
-pub decides-top : (rule : Rule) (o : Option Standing) (d : Content) → decides rule o d [] ≡ picks_some rule o d
+pub decides-top : (rule : Rule) (o : Option LeafValue) (d : Content) → decides rule o d [] ≡ picks_some rule o d
 decides-top Absent None d = refl
 decides-top Absent (Some v) d = refl
 decides-top Present None d = refl
@@ -91,7 +91,7 @@ decides-none Present d p = refl
 decides-none Changed d p = refl
 decides-none Clear d p = refl
 
-pub decides-below : (rule : Rule) (g : List ℕ) (o : Option Standing) (d j : Content) → IsBelow g d j → (q : PathTexts) → decides rule o d (g ∷ q) ≡ decides rule o j q
+pub decides-below : (rule : Rule) (g : List ℕ) (o : Option LeafValue) (d j : Content) → IsBelow g d j → (q : PathTexts) → decides rule o d (g ∷ q) ≡ decides rule o j q
 decides-below Absent g o d j theirs q = ap (λ a. is_some o && not (is_some a)) (sym (theirs q))
 decides-below Present g o d j theirs q = ap (λ a. is_some o && is_some a) (sym (theirs q))
 decides-below Changed g o d j theirs q = ap (λ a. is_some o && not (same_value o a)) (sym (theirs q))
@@ -146,7 +146,7 @@ module _ (rule : Rule) (ds : Named) where
   pub picked_children : (cs : Named) → IsRising cs → AreChildren (picked_in rule ds cs)
   picked_children cs rises = (picked_rises cs rises, picked_full cs)
 
-  abbrev mark_at : List ℕ → Option Content → PathTexts → Option Standing
+  abbrev mark_at : List ℕ → Option Content → PathTexts → Option LeafValue
   mark_at g o q = cond (decides rule (fin.get (content_or_nothing o) q) (beside g) q) (Some mark) None
 
   mark_none : (g : List ℕ) (q : PathTexts) → mark_at g None q ≡ None
@@ -177,14 +177,14 @@ module _ (rule : Rule) (ds : Named) where
       by_path later true is = kept_one later (bytes_eq c.0 g) refl
       by_path later false is = left_one (no_path (marked (picked rule c.1 (beside c.0))) is) later (bytes_eq c.0 g) refl
 
-  pub picks_level : (d : Content) → ((f : List ℕ) → beside f ≡ inside f d) → (h m : Option Held) (cs : Named) → IsRising cs → option_map standing m ≡ cond (picks_some rule (option_map standing h) d) (Some mark) None
+  pub picks_level : (d : Content) → ((f : List ℕ) → beside f ≡ inside f d) → (h m : Option PathValue) (cs : Named) → IsRising cs → option_map leaf_value m ≡ cond (picks_some rule (option_map leaf_value h) d) (Some mark) None
       → over (at_top m) (gather (picked_in rule ds cs)) ≡ marked (picked rule (over (at_top h) (gather cs)) d)
   picks_level d insides h m cs rises top = same (over (at_top m) (gather (picked_in rule ds cs))) (marked (picked rule (over (at_top h) (gather cs)) d)) by_path
     where
       by_path : (q : PathTexts) → fin.get (over (at_top m) (gather (picked_in rule ds cs))) q ≡ fin.get (marked (picked rule (over (at_top h) (gather cs)) d)) q
       by_path [] =
           get-level-top m (picked_in rule ds cs) ∙ top
-          ∙ sym (get-picked rule (over (at_top h) (gather cs)) d [] ∙ ap (λ b. cond b (Some mark) None) (ap (λ o. decides rule o d []) (get-level-top h cs) ∙ decides-top rule (option_map standing h) d))
+          ∙ sym (get-picked rule (over (at_top h) (gather cs)) d [] ∙ ap (λ b. cond b (Some mark) None) (ap (λ o. decides rule o d []) (get-level-top h cs) ∙ decides-top rule (option_map leaf_value h) d))
       by_path (g ∷ q) =
           get-level-below m (picked_in rule ds cs) (picked_rises cs rises) g q ∙ child-picked g q cs rises
           ∙ sym (get-picked rule (over (at_top h) (gather cs)) d (g ∷ q) ∙ ap (λ b. cond b (Some mark) None) (ap (λ o. decides rule o d (g ∷ q)) (get-level-below h cs rises g q)
@@ -243,12 +243,12 @@ no_child-is [] none = refl
 no_child-is (c ∷ cs) none = absurd (true≢false (sym none))
 
 -- below a top that isn't, nothing is picked exactly where of each child nothing is
-pub none_below : (rule : Rule) (ds : Named) (d : Content) → ((f : List ℕ) → beside rule ds f ≡ inside f d) → (h : Option Held) (cs : Named) → IsRising cs → picks_some rule (option_map standing h) d ≡ false
+pub none_below : (rule : Rule) (ds : Named) (d : Content) → ((f : List ℕ) → beside rule ds f ≡ inside f d) → (h : Option PathValue) (cs : Named) → IsRising cs → picks_some rule (option_map leaf_value h) d ≡ false
     → no_child (picked_in rule ds cs) ≡ is_empty (picked rule (over (at_top h) (gather cs)) d)
 none_below rule ds d insides h cs rises off =
     let ps = picked_in rule ds cs in
     let s = picked rule (over (at_top h) (gather cs)) d in
-    let bare : Option Held = None in
+    let bare : Option PathValue = None in
     let level : over (at_top bare) (gather ps) ≡ marked s = picks_level rule ds d insides h bare cs rises (sym (ap (λ b. cond b (Some mark) None) off)) in
     both_ways (no_child ps) (is_empty s) (λ none. none_marked s (sym level ∙ bare_level bare ps refl (no_child-is ps none)))
     (λ none. ap no_child (bare_below bare ps (picked_children rule ds cs rises).1 (level ∙ marked_none s none)))

@@ -11,13 +11,13 @@ use Rattle.std.proofs.lemmas.Cmp.{nat_list_cmp_total}
 use Rattle.std.proofs.lemmas.Map.Keys.{sorted_head, sorted_tail}
 use Rattle.std.proofs.lemmas.Slice.Eq.{bytes_eq-Decides}
 use Rattle.fieldpath.specs.Paths.{PathTexts, path_cmp}
-use Rattle.pathmap.specs.Contents.{Standing, Content, nothing, over, gather}
+use Rattle.pathmap.specs.Contents.{LeafValue, Content, nothing, over, gather}
 use Rattle.pathmap.specs.Cuts.{index_from}
-use Rattle.pathmap.specs.Levels.{at_top, standing, has_path, IsRising, AreChildren, child_of}
+use Rattle.pathmap.specs.Levels.{at_top, leaf_value, has_path, IsRising, AreChildren, child_of}
 use Rattle.pathmap.specs.Maps.{content_or_nothing, contents_in}
-use Rattle.pathmap.specs.Merged.{front_of, back_of, left_of, join_on}
+use Rattle.pathmap.specs.Merged.{prefix_of, back_of, left_of, join_on}
 use Rattle.pathmap.specs.Puts.{put_in}
-use Rattle.pathmap.specs.declared.held.Held.{Held}
+use Rattle.pathmap.specs.declared.held.PathValue.{PathValue}
 use Rattle.pathmap.proofs.Contents.{path_cmp_total, same}
 use Rattle.pathmap.proofs.Cutting.{index_high, number}
 use Rattle.pathmap.proofs.Heads.{one_path}
@@ -41,14 +41,14 @@ join_first f c (b ∷ bs) = by_test (bytes_eq b.0 f)
     by_test false = refl
 
 -- the list that is walked once
-pub put_is : (f : List ℕ) (c : Content) (cs : Named) → put_in f c cs ≡ front_of f cs ++ (f, c) ∷ left_of f (back_of f cs)
-put_is f c cs = ap (λ m. front_of f cs ++ (let first : List ℕ × Content = (f, m) in first ∷ left_of f (back_of f cs))) (join_first f c (back_of f cs))
+pub put_is : (f : List ℕ) (c : Content) (cs : Named) → put_in f c cs ≡ prefix_of f cs ++ (f, c) ∷ left_of f (back_of f cs)
+put_is f c cs = ap (λ m. prefix_of f cs ++ (let first : List ℕ × Content = (f, m) in first ∷ left_of f (back_of f cs))) (join_first f c (back_of f cs))
 
 -- ---- where one has the name
 
-put_first : (f : List ℕ) (m : Content) (x : List ℕ × Content) (cs : Named) → x.0 ≡ f → (f, m) ∷ cs ≡ front_of f (x ∷ cs) ++ (f, m) ∷ left_of f (back_of f (x ∷ cs))
+put_first : (f : List ℕ) (m : Content) (x : List ℕ × Content) (cs : Named) → x.0 ≡ f → (f, m) ∷ cs ≡ prefix_of f (x ∷ cs) ++ (f, m) ∷ left_of f (back_of f (x ∷ cs))
 put_first f m x cs is =
-    sym (ap (λ b. cond b (x ∷ front_of f cs) [] ++ (let first : List ℕ × Content = (f, m) in first ∷ left_of f (cond b (back_of f cs) (x ∷ cs)))) not_less
+    sym (ap (λ b. cond b (x ∷ prefix_of f cs) [] ++ (let first : List ℕ × Content = (f, m) in first ∷ left_of f (cond b (back_of f cs) (x ∷ cs)))) not_less
     ∙ ap (λ b. (let first : List ℕ × Content = (f, m) in first ∷ cond b cs (x ∷ cs))) ((bytes_eq-Decides x.0 f).1 is))
   where
     not_less : is_lt (slice_cmp nat_cmp x.0 f) ≡ false
@@ -67,29 +67,29 @@ later_less f x k p cs rises at = member k cs (sorted_head (slice_cmp nat_cmp) x.
         by_name later false is h = later h
 
 put_later : (f : List ℕ) (m : Content) (x : List ℕ × Content) (cs : Named) → slice_cmp nat_cmp x.0 f ≡ Less
-    → x ∷ (front_of f cs ++ (f, m) ∷ left_of f (back_of f cs)) ≡ front_of f (x ∷ cs) ++ (f, m) ∷ left_of f (back_of f (x ∷ cs))
-put_later f m x cs less = sym (ap (λ b. cond b (x ∷ front_of f cs) [] ++ (let first : List ℕ × Content = (f, m) in first ∷ left_of f (cond b (back_of f cs) (x ∷ cs)))) (ap is_lt less))
+    → x ∷ (prefix_of f cs ++ (f, m) ∷ left_of f (back_of f cs)) ≡ prefix_of f (x ∷ cs) ++ (f, m) ∷ left_of f (back_of f (x ∷ cs))
+put_later f m x cs less = sym (ap (λ b. cond b (x ∷ prefix_of f cs) [] ++ (let first : List ℕ × Content = (f, m) in first ∷ left_of f (cond b (back_of f cs) (x ∷ cs)))) (ap is_lt less))
 
-set_front : (f : List ℕ) (xs : List (String Global × Content)) (k i : ℕ) (e : String Global × Content) (m : Content) → IsRising (contents_in xs) → index_from k f (contents_in xs) ≡ Some (k + i) → e ≡ get_or xs i e
-    → contents_in (slice_set xs i (e.0, m)) ≡ front_of f (contents_in xs) ++ (f, m) ∷ left_of f (back_of f (contents_in xs))
-set_front f [] k i e m rises at is = absurd (true≢false (ap is_some (sym at)))
-set_front f (x ∷ xs) k zero e m rises at is = by_name (bytes_eq (string_bytes x.0) f) refl at
+set_prefix : (f : List ℕ) (xs : List (String Global × Content)) (k i : ℕ) (e : String Global × Content) (m : Content) → IsRising (contents_in xs) → index_from k f (contents_in xs) ≡ Some (k + i) → e ≡ get_or xs i e
+    → contents_in (slice_set xs i (e.0, m)) ≡ prefix_of f (contents_in xs) ++ (f, m) ∷ left_of f (back_of f (contents_in xs))
+set_prefix f [] k i e m rises at is = absurd (true≢false (ap is_some (sym at)))
+set_prefix f (x ∷ xs) k zero e m rises at is = by_name (bytes_eq (string_bytes x.0) f) refl at
   where
     by_name : (b : Bool) → bytes_eq (string_bytes x.0) f ≡ b → cond b (Some k) (index_from (k + 1) f (contents_in xs)) ≡ Some (k + 0)
-        → (let first : List ℕ × Content = (string_bytes e.0, m) in first ∷ contents_in xs) ≡ front_of f (contents_in (x ∷ xs)) ++ (f, m) ∷ left_of f (back_of f (contents_in (x ∷ xs)))
+        → (let first : List ℕ × Content = (string_bytes e.0, m) in first ∷ contents_in xs) ≡ prefix_of f (contents_in (x ∷ xs)) ++ (f, m) ∷ left_of f (back_of f (contents_in (x ∷ xs)))
     by_name true has h =
         let name = (bytes_eq-Decides (string_bytes x.0) f).0 has in
         ap (λ n. (let first : List ℕ × Content = (n, m) in first ∷ contents_in xs)) (ap (λ y. string_bytes y.0) is ∙ name) ∙ put_first f m (string_bytes x.0, x.1) (contents_in xs) name
     by_name false has h = let le = index_high (k + 1) f (contents_in xs) (k + 0) h in absurd (omega (arith, le))
-set_front f (x ∷ xs) k (suc i) e m rises at is =
-    by_name (λ h. set_front f xs (k + 1) i e m (sorted_tail (slice_cmp nat_cmp) (string_bytes x.0) (map (λ c. c.0) (contents_in xs)) rises) h is) (bytes_eq (string_bytes x.0) f) at
+set_prefix f (x ∷ xs) k (suc i) e m rises at is =
+    by_name (λ h. set_prefix f xs (k + 1) i e m (sorted_tail (slice_cmp nat_cmp) (string_bytes x.0) (map (λ c. c.0) (contents_in xs)) rises) h is) (bytes_eq (string_bytes x.0) f) at
   where
     further : k + suc i ≡ k + 1 + i
     further = omega arith
 
-    by_name : (index_from (k + 1) f (contents_in xs) ≡ Some (k + 1 + i) → contents_in (slice_set xs i (e.0, m)) ≡ front_of f (contents_in xs) ++ (f, m) ∷ left_of f (back_of f (contents_in xs))) → (b : Bool)
+    by_name : (index_from (k + 1) f (contents_in xs) ≡ Some (k + 1 + i) → contents_in (slice_set xs i (e.0, m)) ≡ prefix_of f (contents_in xs) ++ (f, m) ∷ left_of f (back_of f (contents_in xs))) → (b : Bool)
         → cond b (Some k) (index_from (k + 1) f (contents_in xs)) ≡ Some (k + suc i)
-        → (let first : List ℕ × Content = (string_bytes x.0, x.1) in first ∷ contents_in (slice_set xs i (e.0, m))) ≡ front_of f (contents_in (x ∷ xs)) ++ (f, m) ∷ left_of f (back_of f (contents_in (x ∷ xs)))
+        → (let first : List ℕ × Content = (string_bytes x.0, x.1) in first ∷ contents_in (slice_set xs i (e.0, m))) ≡ prefix_of f (contents_in (x ∷ xs)) ++ (f, m) ∷ left_of f (back_of f (contents_in (x ∷ xs)))
     by_name later true h = let one = ap number h in absurd (omega (arith, one))
     by_name later false h =
         ap (λ l. (let first : List ℕ × Content = (string_bytes x.0, x.1) in first ∷ l)) (later (h ∙ ap (λ n. Some n) further))
@@ -123,10 +123,10 @@ present k f (c ∷ cs) n at = by_name (present (k + 1) f cs n) (bytes_eq c.0 f) 
     by_name later false h = later h
 
 -- a content written at the place of its name
-pub put_at : (f : List ℕ) (xs : List (String Global × Content)) (i : ℕ) (e : String Global × Content) (m : Content) (p : PathTexts) (v : Standing) → IsRising (contents_in xs) → index_from 0 f (contents_in xs) ≡ Some i → e ≡ get_or xs i e
+pub put_at : (f : List ℕ) (xs : List (String Global × Content)) (i : ℕ) (e : String Global × Content) (m : Content) (p : PathTexts) (v : LeafValue) → IsRising (contents_in xs) → index_from 0 f (contents_in xs) ≡ Some i → e ≡ get_or xs i e
     → m ≡ fin.insert e.1 p v → contents_in (slice_set xs i (e.0, m)) ≡ put_in f (fin.insert (content_or_nothing (child_of f (contents_in xs))) p v) (contents_in xs)
 put_at f xs i e m p v rises at is made =
-    set_front f xs 0 i e m rises (at ∙ ap (λ n. Some n) from_none) is ∙ sym (put_is f m (contents_in xs))
+    set_prefix f xs 0 i e m rises (at ∙ ap (λ n. Some n) from_none) is ∙ sym (put_is f m (contents_in xs))
     ∙ ap (λ c. put_in f c (contents_in xs)) (made ∙ ap (λ o. fin.insert (content_or_nothing o) p v) (sym (child_get f xs 0 i e (at ∙ ap (λ n. Some n) from_none) is)))
   where
     from_none : i ≡ 0 + i
@@ -148,32 +148,32 @@ absent k f (c ∷ cs) e = by_name (absent (k + 1) f cs) (bytes_eq c.0 f) refl e
     by_name later false is h = let done = later h in (done.0, by_order done.1 is (is_lt (slice_cmp nat_cmp c.0 f)))
 
 -- one more in its place
-pub insert_front : (f : List ℕ) (xs : List (String Global × Content)) (y : String Global × Content) → contents_in (insert xs (length (front_of f (contents_in xs))) y) ≡ front_of f (contents_in xs) ++ (string_bytes y.0, y.1) ∷ back_of f (contents_in xs)
-insert_front f [] y = refl
-insert_front f (x ∷ xs) y = by_order (insert_front f xs y) (is_lt (slice_cmp nat_cmp (string_bytes x.0) f))
+pub insert_prefix : (f : List ℕ) (xs : List (String Global × Content)) (y : String Global × Content) → contents_in (insert xs (length (prefix_of f (contents_in xs))) y) ≡ prefix_of f (contents_in xs) ++ (string_bytes y.0, y.1) ∷ back_of f (contents_in xs)
+insert_prefix f [] y = refl
+insert_prefix f (x ∷ xs) y = by_order (insert_prefix f xs y) (is_lt (slice_cmp nat_cmp (string_bytes x.0) f))
   where
-    by_order : contents_in (insert xs (length (front_of f (contents_in xs))) y) ≡ front_of f (contents_in xs) ++ (string_bytes y.0, y.1) ∷ back_of f (contents_in xs) → (t : Bool)
-        → contents_in (insert (x ∷ xs) (length (cond t ((string_bytes x.0, x.1) ∷ front_of f (contents_in xs)) [])) y)
-        ≡ cond t ((string_bytes x.0, x.1) ∷ front_of f (contents_in xs)) [] ++ (string_bytes y.0, y.1) ∷ cond t (back_of f (contents_in xs)) ((string_bytes x.0, x.1) ∷ contents_in xs)
+    by_order : contents_in (insert xs (length (prefix_of f (contents_in xs))) y) ≡ prefix_of f (contents_in xs) ++ (string_bytes y.0, y.1) ∷ back_of f (contents_in xs) → (t : Bool)
+        → contents_in (insert (x ∷ xs) (length (cond t ((string_bytes x.0, x.1) ∷ prefix_of f (contents_in xs)) [])) y)
+        ≡ cond t ((string_bytes x.0, x.1) ∷ prefix_of f (contents_in xs)) [] ++ (string_bytes y.0, y.1) ∷ cond t (back_of f (contents_in xs)) ((string_bytes x.0, x.1) ∷ contents_in xs)
     by_order later true = ap (λ l. (let first : List ℕ × Content = (string_bytes x.0, x.1) in first ∷ l)) later
     by_order later false = refl
 
 -- a new child
-pub put_new : (f : List ℕ) (xs : List (String Global × Content)) (i : ℕ) (n : String Global) (m : Content) → index_from 0 f (contents_in xs) ≡ None → i ≡ length (front_of f (contents_in xs)) → string_bytes n ≡ f
+pub put_new : (f : List ℕ) (xs : List (String Global × Content)) (i : ℕ) (n : String Global) (m : Content) → index_from 0 f (contents_in xs) ≡ None → i ≡ length (prefix_of f (contents_in xs)) → string_bytes n ≡ f
     → contents_in (insert xs i (n, m)) ≡ put_in f m (contents_in xs)
 put_new f xs i n m at place named =
-    ap (λ k. contents_in (insert xs k (n, m))) place ∙ insert_front f xs (n, m)
-    ∙ ap₂ (λ k l. front_of f (contents_in xs) ++ (let first : List ℕ × Content = (k, m) in first ∷ l)) named (sym (absent 0 f (contents_in xs) at).1) ∙ sym (put_is f m (contents_in xs))
+    ap (λ k. contents_in (insert xs k (n, m))) place ∙ insert_prefix f xs (n, m)
+    ∙ ap₂ (λ k l. prefix_of f (contents_in xs) ++ (let first : List ℕ × Content = (k, m) in first ∷ l)) named (sym (absent 0 f (contents_in xs) at).1) ∙ sym (put_is f m (contents_in xs))
 
 -- a new child that has one path
-pub insert_new : (f : List ℕ) (xs : List (String Global × Content)) (i : ℕ) (n : String Global) (m none : Content) (p : PathTexts) (v : Standing) → index_from 0 f (contents_in xs) ≡ None → i ≡ length (front_of f (contents_in xs)) → string_bytes n ≡ f
+pub insert_new : (f : List ℕ) (xs : List (String Global × Content)) (i : ℕ) (n : String Global) (m none : Content) (p : PathTexts) (v : LeafValue) → index_from 0 f (contents_in xs) ≡ None → i ≡ length (prefix_of f (contents_in xs)) → string_bytes n ≡ f
     → none ≡ nothing → m ≡ fin.insert none p v → contents_in (insert xs i (n, m)) ≡ put_in f (fin.insert (content_or_nothing (child_of f (contents_in xs))) p v) (contents_in xs)
 insert_new f xs i n m none p v at place named bare made =
     put_new f xs i n m at place named ∙ ap (λ c. put_in f c (contents_in xs)) (made ∙ ap (λ c. fin.insert c p v) (bare ∙ sym (ap content_or_nothing (absent 0 f (contents_in xs) at).0)))
 
 -- ---- a level with one path more
 
-pub inserted_path : (c : Content) (p : PathTexts) (v : Standing) → has_path (fin.insert c p v) ≡ true
+pub inserted_path : (c : Content) (p : PathTexts) (v : LeafValue) → has_path (fin.insert c p v) ≡ true
 inserted_path c p v = one_path (fin.insert c p v) p (ap is_some (fin.get-insert path_cmp_total c p v p) ∙ ap (λ o. is_some (cond (is_eq o) (Some v) (fin.get c p))) (tied_itself path_cmp_total p))
 
 pub put_children : (f : List ℕ) (c : Content) (cs : Named) → has_path c ≡ true → AreChildren cs → AreChildren (put_in f c cs)
@@ -191,15 +191,15 @@ child-put f g c cs rises = child-merged (λ x y. x) g ((f, c) ∷ []) cs (rising
     by_name false = refl
 
 -- at the empty path
-pub insert-top : (old : Option Held) (h : Held) (cs : Named) → over (at_top (Some h)) (gather cs) ≡ fin.insert (over (at_top old) (gather cs)) [] (standing h)
-insert-top old h cs = same (over (at_top (Some h)) (gather cs)) (fin.insert (over (at_top old) (gather cs)) [] (standing h)) by_path
+pub insert-top : (old : Option PathValue) (h : PathValue) (cs : Named) → over (at_top (Some h)) (gather cs) ≡ fin.insert (over (at_top old) (gather cs)) [] (leaf_value h)
+insert-top old h cs = same (over (at_top (Some h)) (gather cs)) (fin.insert (over (at_top old) (gather cs)) [] (leaf_value h)) by_path
   where
-    by_path : (q : PathTexts) → fin.get (over (at_top (Some h)) (gather cs)) q ≡ fin.get (fin.insert (over (at_top old) (gather cs)) [] (standing h)) q
-    by_path [] = get-level-top (Some h) cs ∙ sym (fin.get-insert path_cmp_total (over (at_top old) (gather cs)) [] (standing h) [])
-    by_path (g ∷ q) = get-level-gather (Some h) cs g q ∙ sym (get-level-gather old cs g q) ∙ sym (fin.get-insert path_cmp_total (over (at_top old) (gather cs)) [] (standing h) (g ∷ q))
+    by_path : (q : PathTexts) → fin.get (over (at_top (Some h)) (gather cs)) q ≡ fin.get (fin.insert (over (at_top old) (gather cs)) [] (leaf_value h)) q
+    by_path [] = get-level-top (Some h) cs ∙ sym (fin.get-insert path_cmp_total (over (at_top old) (gather cs)) [] (leaf_value h) [])
+    by_path (g ∷ q) = get-level-gather (Some h) cs g q ∙ sym (get-level-gather old cs g q) ∙ sym (fin.get-insert path_cmp_total (over (at_top old) (gather cs)) [] (leaf_value h) (g ∷ q))
 
 -- below an element
-pub insert-below : (h : Option Held) (f : List ℕ) (p : PathTexts) (v : Standing) (cs : Named) → AreChildren cs
+pub insert-below : (h : Option PathValue) (f : List ℕ) (p : PathTexts) (v : LeafValue) (cs : Named) → AreChildren cs
     → over (at_top h) (gather (put_in f (fin.insert (content_or_nothing (child_of f cs)) p v) cs)) ≡ fin.insert (over (at_top h) (gather cs)) (f ∷ p) v
 insert-below h f p v cs kept = same (over (at_top h) (gather (put_in f (fin.insert (content_or_nothing (child_of f cs)) p v) cs))) (fin.insert (over (at_top h) (gather cs)) (f ∷ p) v) by_path
   where

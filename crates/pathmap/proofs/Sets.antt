@@ -8,8 +8,8 @@ use Rattle.std.specs.FinMap as fin
 use Rattle.std.specs.FinSet as set
 use Rattle.std.proofs.lemmas.Slice.Eq.{bytes_eq-Decides}
 use Rattle.fieldpath.specs.Paths.{PathTexts, path_cmp}
-use Rattle.pathmap.specs.Contents.{Standing, Content, PathSet, nothing, over, dom}
-use Rattle.pathmap.specs.Beside.{same_value, changed, is_empty, is_within, is_front, has_at_or_below, has_at_or_above, without, clear_of}
+use Rattle.pathmap.specs.Contents.{LeafValue, Content, PathSet, nothing, over, dom}
+use Rattle.pathmap.specs.Beside.{same_value, changed, is_empty, is_within, is_prefix, has_at_or_below, has_at_or_above, without, clear_of}
 use Rattle.pathmap.proofs.Contents.{path_cmp_total, path_cmp_antisymmetric, same, either, get-nothing, get-over}
 
 pub same_paths : (s t : PathSet) → ((q : PathTexts) → set.contains s q ≡ set.contains t q) → s ≡ t
@@ -85,7 +85,7 @@ module _ (p : PathTexts → Bool) where
   pub passes_one : (c : Content) (q : PathTexts) → is_some (fin.get c q) ≡ true → p q ≡ true → list_any p (set.items (dom c)) ≡ true
   passes_one c q is h = one_of q h (set.items (dom c)) (sym (set.contains-items (dom c) q) ∙ contains-dom c q ∙ is)
 
--- ---- fronts, one element down
+-- ---- prefixes, one element down
 
 -- d is what stands in c below g
 abbrev pub IsBelow : List ℕ → Content → Content → Type 0
@@ -103,33 +103,33 @@ module _ (g : List ℕ) (c d : Content) (below : IsBelow g c d) where
 
   pub has_below-at : (p : PathTexts) → has_at_or_below (dom c) (g ∷ p) ≡ has_at_or_below (dom d) p
   unfolding has_at_or_below
-  has_below-at p = both_ways (list_any (is_front (g ∷ p)) (set.items (dom c))) (list_any (is_front p) (set.items (dom d))) (λ h. let found = passes_some (is_front (g ∷ p)) c h in into found.0 found.1 found.2)
-      (λ h. let found = passes_some (is_front p) d h in passes_one (is_front (g ∷ p)) c (g ∷ found.0) (at_this found.0 found.1) (ap (λ b. b && is_front p found.0) itself ∙ found.2))
+  has_below-at p = both_ways (list_any (is_prefix (g ∷ p)) (set.items (dom c))) (list_any (is_prefix p) (set.items (dom d))) (λ h. let found = passes_some (is_prefix (g ∷ p)) c h in into found.0 found.1 found.2)
+      (λ h. let found = passes_some (is_prefix p) d h in passes_one (is_prefix (g ∷ p)) c (g ∷ found.0) (at_this found.0 found.1) (ap (λ b. b && is_prefix p found.0) itself ∙ found.2))
     where
-      into : (q : PathTexts) → is_some (fin.get c q) ≡ true → is_front (g ∷ p) q ≡ true → list_any (is_front p) (set.items (dom d)) ≡ true
+      into : (q : PathTexts) → is_some (fin.get c q) ≡ true → is_prefix (g ∷ p) q ≡ true → list_any (is_prefix p) (set.items (dom d)) ≡ true
       into [] is h = absurd (true≢false (sym h))
-      into (f ∷ q) is h = passes_one (is_front p) d q (at_other f q (sym ((bytes_eq-Decides g f).0 (first_so (bytes_eq g f) (is_front p q) h))) is) (second_so (bytes_eq g f) (is_front p q) h)
+      into (f ∷ q) is h = passes_one (is_prefix p) d q (at_other f q (sym ((bytes_eq-Decides g f).0 (first_so (bytes_eq g f) (is_prefix p q) h))) is) (second_so (bytes_eq g f) (is_prefix p q) h)
 
   pub has_above-at : (q : PathTexts) → has_at_or_above (dom c) (g ∷ q) ≡ (is_some (fin.get c []) || has_at_or_above (dom d) q)
   unfolding has_at_or_above
-  has_above-at q = both_ways (list_any (λ p. is_front p (g ∷ q)) (set.items (dom c))) (is_some (fin.get c []) || list_any (λ p. is_front p q) (set.items (dom d)))
-      (λ h. let found = passes_some (λ p. is_front p (g ∷ q)) c h in into found.0 found.1 found.2) (out (is_some (fin.get c [])) refl)
+  has_above-at q = both_ways (list_any (λ p. is_prefix p (g ∷ q)) (set.items (dom c))) (is_some (fin.get c []) || list_any (λ p. is_prefix p q) (set.items (dom d)))
+      (λ h. let found = passes_some (λ p. is_prefix p (g ∷ q)) c h in into found.0 found.1 found.2) (out (is_some (fin.get c [])) refl)
     where
-      into : (p : PathTexts) → is_some (fin.get c p) ≡ true → is_front p (g ∷ q) ≡ true → (is_some (fin.get c []) || list_any (λ p. is_front p q) (set.items (dom d))) ≡ true
-      into [] is h = ap (λ b. b || list_any (λ p. is_front p q) (set.items (dom d))) is
+      into : (p : PathTexts) → is_some (fin.get c p) ≡ true → is_prefix p (g ∷ q) ≡ true → (is_some (fin.get c []) || list_any (λ p. is_prefix p q) (set.items (dom d))) ≡ true
+      into [] is h = ap (λ b. b || list_any (λ p. is_prefix p q) (set.items (dom d))) is
       into (f ∷ p) is h =
-          ap (λ b. is_some (fin.get c []) || b) (passes_one (λ p. is_front p q) d p (at_other f p ((bytes_eq-Decides f g).0 (first_so (bytes_eq f g) (is_front p q) h)) is) (second_so (bytes_eq f g) (is_front p q) h))
+          ap (λ b. is_some (fin.get c []) || b) (passes_one (λ p. is_prefix p q) d p (at_other f p ((bytes_eq-Decides f g).0 (first_so (bytes_eq f g) (is_prefix p q) h)) is) (second_so (bytes_eq f g) (is_prefix p q) h))
           ∙ or_true (is_some (fin.get c []))
 
-      out : (b : Bool) → is_some (fin.get c []) ≡ b → (b || list_any (λ p. is_front p q) (set.items (dom d))) ≡ true → list_any (λ p. is_front p (g ∷ q)) (set.items (dom c)) ≡ true
-      out true is h = passes_one (λ p. is_front p (g ∷ q)) c [] is refl
-      out false is h = let found = passes_some (λ p. is_front p q) d h in passes_one (λ p. is_front p (g ∷ q)) c (g ∷ found.0) (at_this found.0 found.1) (ap (λ b. b && is_front found.0 q) itself ∙ found.2)
+      out : (b : Bool) → is_some (fin.get c []) ≡ b → (b || list_any (λ p. is_prefix p q) (set.items (dom d))) ≡ true → list_any (λ p. is_prefix p (g ∷ q)) (set.items (dom c)) ≡ true
+      out true is h = passes_one (λ p. is_prefix p (g ∷ q)) c [] is refl
+      out false is h = let found = passes_some (λ p. is_prefix p q) d h in passes_one (λ p. is_prefix p (g ∷ q)) c (g ∷ found.0) (at_this found.0 found.1) (ap (λ b. b && is_prefix found.0 q) itself ∙ found.2)
 
 pub has_above-top : (c : Content) → has_at_or_above (dom c) [] ≡ is_some (fin.get c [])
 unfolding has_at_or_above
-has_above-top c = both_ways (list_any (λ p. is_front p []) (set.items (dom c))) (is_some (fin.get c [])) (λ h. let found = passes_some (λ p. is_front p []) c h in into found.0 found.1 found.2) (λ is. passes_one (λ p. is_front p []) c [] is refl)
+has_above-top c = both_ways (list_any (λ p. is_prefix p []) (set.items (dom c))) (is_some (fin.get c [])) (λ h. let found = passes_some (λ p. is_prefix p []) c h in into found.0 found.1 found.2) (λ is. passes_one (λ p. is_prefix p []) c [] is refl)
   where
-    into : (p : PathTexts) → is_some (fin.get c p) ≡ true → is_front p [] ≡ true → is_some (fin.get c []) ≡ true
+    into : (p : PathTexts) → is_some (fin.get c p) ≡ true → is_prefix p [] ≡ true → is_some (fin.get c []) ≡ true
     into [] is h = is
     into (f ∷ p) is h = absurd (true≢false (sym h))
 
@@ -137,21 +137,21 @@ has_above-top c = both_ways (list_any (λ p. is_front p []) (set.items (dom c)))
 
 pub has_any : (c : Content) (q : PathTexts) → is_some (fin.get c q) ≡ true → has_at_or_below (dom c) [] ≡ true
 unfolding has_at_or_below
-has_any c q is = passes_one (is_front []) c q is refl
+has_any c q is = passes_one (is_prefix []) c q is refl
 
 pub has_none : (c : Content) → has_at_or_below (dom c) [] ≡ false → c ≡ nothing
 has_none c h = same c nothing (λ q. by_value q (fin.get c q) refl ∙ sym (get-nothing q))
   where
-    by_value : (q : PathTexts) (o : Option Standing) → fin.get c q ≡ o → fin.get c q ≡ None
+    by_value : (q : PathTexts) (o : Option LeafValue) → fin.get c q ≡ o → fin.get c q ≡ None
     by_value q None is = is
     by_value q (Some v) is = absurd (true≢false (sym (has_any c q (ap is_some is)) ∙ h))
 
 pub nothing-has : has_at_or_below (dom nothing) [] ≡ false
 unfolding has_at_or_below
-nothing-has = by_answer (list_any (is_front []) (set.items (dom nothing))) refl
+nothing-has = by_answer (list_any (is_prefix []) (set.items (dom nothing))) refl
   where
-    by_answer : (b : Bool) → list_any (is_front []) (set.items (dom nothing)) ≡ b → b ≡ false
-    by_answer true h = let found = passes_some (is_front []) nothing h in absurd (true≢false (sym found.1 ∙ ap is_some (get-nothing found.0)))
+    by_answer : (b : Bool) → list_any (is_prefix []) (set.items (dom nothing)) ≡ b → b ≡ false
+    by_answer true h = let found = passes_some (is_prefix []) nothing h in absurd (true≢false (sym found.1 ∙ ap is_some (get-nothing found.0)))
     by_answer false h = refl
 
 -- ---- the paths of maps put together
@@ -164,22 +164,22 @@ dom-over c d = same_paths (dom (over c d)) (set.union (dom c) (dom d)) (λ q.
     contains-dom (over c d) q ∙ ap is_some (get-over c d q) ∙ some_either (fin.get c q) (fin.get d q) ∙ ap₂ (λ a b. a || b) (sym (contains-dom c q)) (sym (contains-dom d q))
     ∙ sym (set.contains-union path_cmp_total (dom c) (dom d) q))
   where
-    some_either : (a b : Option Standing) → is_some (either a b) ≡ (is_some a || is_some b)
+    some_either : (a b : Option LeafValue) → is_some (either a b) ≡ (is_some a || is_some b)
     some_either None b = refl
     some_either (Some v) b = refl
 
 pub dom_empty : (c : Content) → dom c ≡ set.empty → c ≡ nothing
 dom_empty c e = same c nothing (λ q. by_value q (fin.get c q) refl ∙ sym (get-nothing q))
   where
-    by_value : (q : PathTexts) (o : Option Standing) → fin.get c q ≡ o → fin.get c q ≡ None
+    by_value : (q : PathTexts) (o : Option LeafValue) → fin.get c q ≡ o → fin.get c q ≡ None
     by_value q None is = is
     by_value q (Some v) is = absurd (true≢false (sym (ap is_some is) ∙ sym (contains-dom c q) ∙ ap (λ s. set.contains s q) e ∙ set.contains-empty path_cmp q))
 
-pub dom-insert : (c : Content) (p : PathTexts) (v : Standing) → dom (fin.insert c p v) ≡ set.insert (dom c) p
+pub dom-insert : (c : Content) (p : PathTexts) (v : LeafValue) → dom (fin.insert c p v) ≡ set.insert (dom c) p
 dom-insert c p v = same_paths (dom (fin.insert c p v)) (set.insert (dom c) p) (λ q.
     contains-dom (fin.insert c p v) q ∙ ap is_some (fin.get-insert path_cmp_total c p v q) ∙ some_cond (eq_by_cmp path_cmp q p) (fin.get c q) ∙ ap (λ b. eq_by_cmp path_cmp q p || b) (sym (contains-dom c q))
     ∙ sym (set.contains-insert path_cmp_total (dom c) p q))
   where
-    some_cond : (b : Bool) (o : Option Standing) → is_some (cond b (Some v) o) ≡ (b || is_some o)
+    some_cond : (b : Bool) (o : Option LeafValue) → is_some (cond b (Some v) o) ≡ (b || is_some o)
     some_cond true o = refl
     some_cond false o = refl

@@ -6,27 +6,27 @@ use Rattle.std.specs.List.{list_any}
 use Rattle.std.specs.Str.{bytes_eq}
 use Rattle.std.specs.Ordering.{int_cmp, is_eq}
 use Rattle.fieldpath.specs.Paths.{PathTexts}
-use Rattle.pathmap.specs.Contents.{Standing, text, whole, truth, plain, mark, Content, PathSet, dom}
+use Rattle.pathmap.specs.Contents.{LeafValue, text, whole, truth, plain, mark, Content, PathSet, dom}
 
 abbrev pub bool_eq : Bool → Bool → Bool
 bool_eq true b = b
 bool_eq false b = not b
 
 -- whether two values are one
-abbrev pub same_standing : Standing → Standing → Bool
-same_standing (text s) (text t) = bytes_eq s t
-same_standing (whole n) (whole m) = is_eq (int_cmp n m)
-same_standing (truth a) (truth b) = bool_eq a b
-same_standing (plain s) (plain t) = bytes_eq s t
-same_standing mark mark = true
-same_standing _ _ = false
+abbrev pub same_leaf_value : LeafValue → LeafValue → Bool
+same_leaf_value (text s) (text t) = bytes_eq s t
+same_leaf_value (whole n) (whole m) = is_eq (int_cmp n m)
+same_leaf_value (truth a) (truth b) = bool_eq a b
+same_leaf_value (plain s) (plain t) = bytes_eq s t
+same_leaf_value mark mark = true
+same_leaf_value _ _ = false
 
 -- whether both are absent, or both there and one
-abbrev pub same_value : Option Standing → Option Standing → Bool
+abbrev pub same_value : Option LeafValue → Option LeafValue → Bool
 same_value None None = true
 same_value None (Some w) = false
 same_value (Some v) None = false
-same_value (Some v) (Some w) = same_standing v w
+same_value (Some v) (Some w) = same_leaf_value v w
 
 -- the paths of c that d lacks or has another value at
 unfoldable pub changed : Content → Content → PathSet
@@ -43,19 +43,19 @@ is_within s t = is_empty (set.difference s t)
 abbrev pub is_unchanged : Content → Content → Bool
 is_unchanged c d = is_empty (changed c d)
 
--- whether the first path is a front of the second, or the second itself
-abbrev pub is_front : PathTexts → PathTexts → Bool
-is_front [] q = true
-is_front (f ∷ p) [] = false
-is_front (f ∷ p) (g ∷ q) = bytes_eq f g && is_front p q
+-- whether the first path is a prefix of the second, or the second itself
+abbrev pub is_prefix : PathTexts → PathTexts → Bool
+is_prefix [] q = true
+is_prefix (f ∷ p) [] = false
+is_prefix (f ∷ p) (g ∷ q) = bytes_eq f g && is_prefix p q
 
 -- whether the set has a path at or below this one
 unfoldable pub has_at_or_below : PathSet → PathTexts → Bool
-has_at_or_below s p = list_any (is_front p) (set.items s)
+has_at_or_below s p = list_any (is_prefix p) (set.items s)
 
 -- whether the set has this path or one above it
 unfoldable pub has_at_or_above : PathSet → PathTexts → Bool
-has_at_or_above s q = list_any (λ p. is_front p q) (set.items s)
+has_at_or_above s q = list_any (λ p. is_prefix p q) (set.items s)
 
 -- the content less every path at or below one of the set
 unfoldable pub without : Content → PathSet → Content

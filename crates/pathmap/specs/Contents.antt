@@ -6,15 +6,15 @@ use Rattle.std.specs.FinSet as set
 use Rattle.fieldpath.specs.Paths.{PathTexts, path_cmp}
 
 -- what stands at a path: a scalar, an atomic value (as its compact JSON text), or the mark of a list item
-pub data Standing : Type 0 where
-  text : List ℕ → Standing
-  whole : ℤ → Standing
-  truth : Bool → Standing
-  plain : List ℕ → Standing
-  mark : Standing
+pub data LeafValue : Type 0 where
+  text : List ℕ → LeafValue
+  whole : ℤ → LeafValue
+  truth : Bool → LeafValue
+  plain : List ℕ → LeafValue
+  mark : LeafValue
 
 abbrev pub Content : Type 0
-Content = fin.FinMap path_cmp Standing
+Content = fin.FinMap path_cmp LeafValue
 
 abbrev pub PathSet : Type 0
 PathSet = set.FinSet path_cmp
@@ -23,7 +23,7 @@ abbrev pub nothing : Content
 nothing = fin.empty
 
 -- a value alone, at the empty path
-unfoldable pub here : Standing → Content
+unfoldable pub here : LeafValue → Content
 here v = fin.insert fin.empty [] v
 
 -- every path with one more element in front

@@ -5,7 +5,7 @@ use Rattle.std.specs.Cmp.Lexicographic.{slice_cmp}
 use Rattle.std.specs.FinMap as fin
 use Rattle.std.specs.FinMap.{find, IsAntisymmetric, nat_cmp-IsAntisymmetric, slice_cmp-IsAntisymmetric}
 use Rattle.fieldpath.specs.Paths.{PathTexts, path_cmp, path_cmp_total}
-use Rattle.pathmap.specs.Contents.{Standing, Content, nothing, here, under, over, gather}
+use Rattle.pathmap.specs.Contents.{LeafValue, Content, nothing, here, under, over, gather}
 
 pub path_cmp_antisymmetric : IsAntisymmetric path_cmp
 path_cmp_antisymmetric = slice_cmp-IsAntisymmetric (slice_cmp-IsAntisymmetric nat_cmp-IsAntisymmetric)
@@ -22,7 +22,7 @@ pub either-cond : {X : Type 0} (b : Bool) (x : X) (r s : Option X) → either (c
 either-cond true x r s = refl
 either-cond false x r s = refl
 
-pub find-both : (q : PathTexts) (es gs : List (PathTexts × Standing)) → find path_cmp q (es ++ gs) ≡ either (find path_cmp q es) (find path_cmp q gs)
+pub find-both : (q : PathTexts) (es gs : List (PathTexts × LeafValue)) → find path_cmp q (es ++ gs) ≡ either (find path_cmp q es) (find path_cmp q gs)
 find-both q [] gs = refl
 find-both q (e ∷ es) gs = ap (cond (eq_by_cmp path_cmp q e.0) (Some e.1)) (find-both q es gs) ∙ sym (either-cond (eq_by_cmp path_cmp q e.0) e.1 (find path_cmp q es) (find path_cmp q gs))
 
@@ -58,20 +58,20 @@ pub gather-both : (xs ys : List (List ℕ × Content)) → gather (xs ++ ys) ≡
 gather-both [] ys = sym (nothing-over (gather ys))
 gather-both (x ∷ xs) ys = ap (over (under x.0 x.1)) (gather-both xs ys) ∙ sym (over-over (under x.0 x.1) (gather xs) (gather ys))
 
-tied_or : (o : Ordering) (r : Ordering) (v : Standing) (a : Option Standing) → cond (is_eq (ordering_then o r)) (Some v) (cond (is_eq o) a None) ≡ cond (is_eq o) (cond (is_eq r) (Some v) a) None
+tied_or : (o : Ordering) (r : Ordering) (v : LeafValue) (a : Option LeafValue) → cond (is_eq (ordering_then o r)) (Some v) (cond (is_eq o) a None) ≡ cond (is_eq o) (cond (is_eq r) (Some v) a) None
 tied_or Less r v a = refl
 tied_or Equal r v a = refl
 tied_or Greater r v a = refl
 
-cond-None : (b : Bool) (a : Option Standing) → a ≡ None → cond b a None ≡ None
+cond-None : (b : Bool) (a : Option LeafValue) → a ≡ None → cond b a None ≡ None
 cond-None true a e = e
 cond-None false a e = refl
 
-find_under : (f g : List ℕ) (rest : PathTexts) (es : List (PathTexts × Standing)) → find path_cmp (g ∷ rest) (map (λ e. (f ∷ e.0, e.1)) es) ≡ cond (is_eq (slice_cmp nat_cmp g f)) (find path_cmp rest es) None
+find_under : (f g : List ℕ) (rest : PathTexts) (es : List (PathTexts × LeafValue)) → find path_cmp (g ∷ rest) (map (λ e. (f ∷ e.0, e.1)) es) ≡ cond (is_eq (slice_cmp nat_cmp g f)) (find path_cmp rest es) None
 find_under f g rest [] = sym (cond-None (is_eq (slice_cmp nat_cmp g f)) None refl)
 find_under f g rest (e ∷ es) = ap (cond (eq_by_cmp path_cmp (g ∷ rest) (f ∷ e.0)) (Some e.1)) (find_under f g rest es) ∙ tied_or (slice_cmp nat_cmp g f) (path_cmp rest e.0) e.1 (find path_cmp rest es)
 
-find_above : (f : List ℕ) (es : List (PathTexts × Standing)) → find path_cmp [] (map (λ e. (f ∷ e.0, e.1)) es) ≡ None
+find_above : (f : List ℕ) (es : List (PathTexts × LeafValue)) → find path_cmp [] (map (λ e. (f ∷ e.0, e.1)) es) ≡ None
 find_above f [] = refl
 find_above f (e ∷ es) = find_above f es
 
@@ -83,6 +83,6 @@ pub get-under-top : (f : List ℕ) (c : Content) → fin.get (under f c) [] ≡ 
 unfolding under
 get-under-top f c = fin.get-from_entries path_cmp_total _ [] ∙ find_above f (fin.entries c)
 
-pub get-here-below : (v : Standing) (g : List ℕ) (rest : PathTexts) → fin.get (here v) (g ∷ rest) ≡ None
+pub get-here-below : (v : LeafValue) (g : List ℕ) (rest : PathTexts) → fin.get (here v) (g ∷ rest) ≡ None
 unfolding here
 get-here-below v g rest = fin.get-insert path_cmp_total nothing [] v (g ∷ rest) ∙ get-nothing (g ∷ rest)

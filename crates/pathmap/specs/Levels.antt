@@ -7,20 +7,20 @@ use Rattle.std.specs.Str.{bytes_eq}
 use Rattle.std.specs.List.Sorted.{IsStrictlySortedBy}
 use Rattle.std.specs.FinMap as fin
 use Rattle.fieldpath.specs.Paths.{PathTexts}
-use Rattle.pathmap.specs.Contents.{Standing, text, whole, truth, plain, mark, Content, nothing, here}
-use Rattle.pathmap.specs.declared.held.Held.{Held}
-use Rattle.pathmap.specs.declared.held.Held.TheVariants as held
+use Rattle.pathmap.specs.Contents.{LeafValue, text, whole, truth, plain, mark, Content, nothing, here}
+use Rattle.pathmap.specs.declared.held.PathValue.{PathValue}
+use Rattle.pathmap.specs.declared.held.PathValue.TheVariants as held
 
-abbrev pub standing : Held → Standing
-standing (held.Text s) = text (string_bytes s)
-standing (held.Whole n) = whole n
-standing (held.Truth b) = truth b
-standing (held.Plain s) = plain (string_bytes s)
-standing held.Mark = mark
+abbrev pub leaf_value : PathValue → LeafValue
+leaf_value (held.Text s) = text (string_bytes s)
+leaf_value (held.Whole n) = whole n
+leaf_value (held.Truth b) = truth b
+leaf_value (held.Plain s) = plain (string_bytes s)
+leaf_value held.Mark = mark
 
-abbrev pub at_top : Option Held → Content
+abbrev pub at_top : Option PathValue → Content
 at_top None = nothing
-at_top (Some h) = here (standing h)
+at_top (Some h) = here (leaf_value h)
 
 abbrev pub named : List (String Global × Content) → List (List ℕ × Content)
 named = map (λ m. (string_bytes m.0, m.1))
@@ -52,7 +52,7 @@ child_of f [] = None
 child_of f (c ∷ cs) = if bytes_eq c.0 f then Some c.1 else child_of f cs
 
 -- how many elements the longest path has, and one more; of no path 0
-abbrev pub longest : List (PathTexts × Standing) → ℕ
+abbrev pub longest : List (PathTexts × LeafValue) → ℕ
 longest [] = 0
 longest (e ∷ es) = max (suc (length e.0)) (longest es)
 

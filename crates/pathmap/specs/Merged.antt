@@ -6,9 +6,9 @@ use Rattle.std.specs.Cmp.Lexicographic.{slice_cmp}
 use Rattle.pathmap.specs.Contents.{Content}
 
 -- those at the front whose names are below this one, and those from there on
-abbrev pub front_of : List ℕ → List (List ℕ × Content) → List (List ℕ × Content)
-front_of f [] = []
-front_of f (c ∷ cs) = if is_lt (slice_cmp nat_cmp c.0 f) then c ∷ front_of f cs else []
+abbrev pub prefix_of : List ℕ → List (List ℕ × Content) → List (List ℕ × Content)
+prefix_of f [] = []
+prefix_of f (c ∷ cs) = if is_lt (slice_cmp nat_cmp c.0 f) then c ∷ prefix_of f cs else []
 
 abbrev pub back_of : List ℕ → List (List ℕ × Content) → List (List ℕ × Content)
 back_of f [] = []
@@ -31,4 +31,4 @@ join_on j f c (m ∷ ms) = if bytes_eq m.0 f then j c m.1 else c
 
 abbrev pub merged : (Content → Content → Content) → List (List ℕ × Content) → List (List ℕ × Content) → List (List ℕ × Content)
 merged j [] ms = ms
-merged j (t ∷ ts) ms = front_of t.0 ms ++ ((t.0, join_on j t.0 t.1 (back_of t.0 ms)) ∷ merged j ts (left_of t.0 (back_of t.0 ms)))
+merged j (t ∷ ts) ms = prefix_of t.0 ms ++ ((t.0, join_on j t.0 t.1 (back_of t.0 ms)) ∷ merged j ts (left_of t.0 (back_of t.0 ms)))

@@ -2,7 +2,7 @@
 use Rattle.std.specs.Prelude.{ℕ, Bool, true, false, not, List, [], ◌∷◌, if◌then◌else◌, Option, Some, None, is_some}
 use Rattle.std.specs.FinMap as fin
 use Rattle.std.specs.FinSet as set
-use Rattle.pathmap.specs.Contents.{Standing, Content, PathSet, dom, marked}
+use Rattle.pathmap.specs.Contents.{LeafValue, Content, PathSet, dom, marked}
 use Rattle.pathmap.specs.Beside.{same_value, changed, has_at_or_below, clear_of}
 use Rattle.pathmap.specs.Levels.{has_path, child_of}
 use Rattle.pathmap.specs.Maps.{content_or_nothing}
@@ -17,13 +17,13 @@ picked Changed c d = changed c d
 picked Clear c d = clear_of (dom c) (dom d)
 
 -- whether the rule picks the empty path, where v stands, beside d
-abbrev pub picks : Rule → Standing → Content → Bool
+abbrev pub picks : Rule → LeafValue → Content → Bool
 picks Absent v d = not (is_some (fin.get d []))
 picks Present v d = is_some (fin.get d [])
 picks Changed v d = not (same_value (Some v) (fin.get d []))
 picks Clear v d = not (has_at_or_below (dom d) [])
 
-abbrev pub picks_some : Rule → Option Standing → Content → Bool
+abbrev pub picks_some : Rule → Option LeafValue → Content → Bool
 picks_some rule None d = false
 picks_some rule (Some v) d = picks rule v d
 

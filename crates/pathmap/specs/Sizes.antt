@@ -9,7 +9,7 @@ use Rattle.std.specs.Ordering.{eq_by_cmp}
 use Rattle.std.specs.FinMap as fin
 use Rattle.std.specs.FinMap.{find}
 use Rattle.fieldpath.specs.Paths.{PathTexts, path_cmp, path_cmp_total}
-use Rattle.pathmap.specs.Contents.{Standing, Content, nothing, under, over, gather}
+use Rattle.pathmap.specs.Contents.{LeafValue, Content, nothing, under, over, gather}
 use Rattle.pathmap.specs.Levels.{named, has_path, is_more, AreFull, longest, height}
 use Rattle.pathmap.specs.Laws.{path_cmp_antisymmetric, either, get-over, get-under}
 use denote.Param.Weighed.{most}
@@ -22,17 +22,17 @@ pub no_path : (c : Content) → has_path c ≡ false → c ≡ nothing
 no_path c e = fin.empty_of_len c (zero_of (fin.len c) e)
 
 -- a path of the longest
-abbrev pub IsLongest : List (PathTexts × Standing) → PathTexts → Type 0
+abbrev pub IsLongest : List (PathTexts × LeafValue) → PathTexts → Type 0
 IsLongest es q = (is_some (find path_cmp q es) ≡ true) × (longest es ≡ suc (length q))
 
-some_cond : (b : Bool) (v : Standing) (o : Option Standing) → is_some o ≡ true → is_some (cond b (Some v) o) ≡ true
+some_cond : (b : Bool) (v : LeafValue) (o : Option LeafValue) → is_some o ≡ true → is_some (cond b (Some v) o) ≡ true
 some_cond true v o h = refl
 some_cond false v o h = h
 
-first_found : (e : PathTexts × Standing) (es : List (PathTexts × Standing)) → is_some (find path_cmp e.0 (e ∷ es)) ≡ true
+first_found : (e : PathTexts × LeafValue) (es : List (PathTexts × LeafValue)) → is_some (find path_cmp e.0 (e ∷ es)) ≡ true
 first_found e es = ap (λ o. is_some (cond (is_eq o) (Some e.1) (find path_cmp e.0 es))) (tied_itself path_cmp_total e.0)
 
-pub longest_path : (e : PathTexts × Standing) (es : List (PathTexts × Standing)) → (q : PathTexts) × IsLongest (e ∷ es) q
+pub longest_path : (e : PathTexts × LeafValue) (es : List (PathTexts × LeafValue)) → (q : PathTexts) × IsLongest (e ∷ es) q
 longest_path e [] = (e.0, (first_found e [], omega arith))
 longest_path e (f ∷ es) = by_order (longest_path f es) (cases_lt (suc (length e.0)) (longest (f ∷ es)))
   where
@@ -40,7 +40,7 @@ longest_path e (f ∷ es) = by_order (longest_path f es) (cases_lt (suc (length 
     by_order found (inl le) = (found.0, (some_cond (eq_by_cmp path_cmp found.0 e.0) e.1 (find path_cmp found.0 (f ∷ es)) found.1.0, (let is = found.1.1 in omega (arith, is, le))))
     by_order found (inr le) = (e.0, (first_found e (f ∷ es), omega (arith, le)))
 
-pub longest_bound : (q : PathTexts) (es : List (PathTexts × Standing)) → is_some (find path_cmp q es) ≡ true → suc (length q) ≤ longest es
+pub longest_bound : (q : PathTexts) (es : List (PathTexts × LeafValue)) → is_some (find path_cmp q es) ≡ true → suc (length q) ≤ longest es
 longest_bound q [] h = absurd (true≢false (sym h))
 longest_bound q (e ∷ es) h = by_tie (longest_bound q es) (eq_by_cmp path_cmp q e.0) refl h
   where
@@ -58,7 +58,7 @@ IsHighest c q = (is_some (fin.get c q) ≡ true) × (height c ≡ suc (length q)
 pub highest : (c : Content) → has_path c ≡ true → (q : PathTexts) × IsHighest c q
 highest c has = by_list (fin.entries c) (sym (ap is_more (fin.len-entries c)) ∙ has) refl
   where
-    by_list : (es : List (PathTexts × Standing)) → is_more (length es) ≡ true → fin.entries c ≡ es → (q : PathTexts) × IsHighest c q
+    by_list : (es : List (PathTexts × LeafValue)) → is_more (length es) ≡ true → fin.entries c ≡ es → (q : PathTexts) × IsHighest c q
     by_list [] h is = absurd (true≢false (sym h))
     by_list (e ∷ es) h is = let found = longest_path e es in (found.0, (ap is_some (fin.get-entries c found.0 ∙ ap (find path_cmp found.0) is) ∙ found.1.0, ap longest is ∙ found.1.1))
 
@@ -66,7 +66,7 @@ highest c has = by_list (fin.entries c) (sym (ap is_more (fin.len-entries c)) �
 higher : (c d : Content) → ((q : PathTexts) → is_some (fin.get c q) ≡ true → is_some (fin.get d q) ≡ true) → height c ≤ height d
 higher c d more = by_list (fin.entries c) refl
   where
-    by_list : (es : List (PathTexts × Standing)) → fin.entries c ≡ es → height c ≤ height d
+    by_list : (es : List (PathTexts × LeafValue)) → fin.entries c ≡ es → height c ≤ height d
     by_list [] is = let h = ap longest is in omega (arith, h)
     by_list (e ∷ es) is =
         let found = longest_path e es in
@@ -74,11 +74,11 @@ higher c d more = by_list (fin.entries c) refl
         let h = ap longest is ∙ found.1.1 in
         omega (arith, le, h)
 
-pub left_some : (a b : Option Standing) → is_some a ≡ true → is_some (either a b) ≡ true
+pub left_some : (a b : Option LeafValue) → is_some a ≡ true → is_some (either a b) ≡ true
 left_some None b h = absurd (true≢false (sym h))
 left_some (Some v) b h = refl
 
-right_some : (a b : Option Standing) → is_some b ≡ true → is_some (either a b) ≡ true
+right_some : (a b : Option LeafValue) → is_some b ≡ true → is_some (either a b) ≡ true
 right_some None b h = h
 right_some (Some v) b h = refl
 

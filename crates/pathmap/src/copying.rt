@@ -3,12 +3,12 @@
 ghost use Rattle.std.specs.Prelude.{◌≡◌, ◌++◌, ◌∷◌, [], IfOk, OnOk, string_bytes};
 ghost use Rattle.pathmap.specs.Maps.{at_top, content, contents_in};
 
-use crate::held::Held;
+use crate::held::PathValue;
 use crate::pathmap::PathMap;
 use fieldpath::ElemText;
 use std::alloc::{AllocError, Global};
 
-pub(crate) fn copy_held(held: &Option<Held>) -> Result<Option<Held>, AllocError>
+pub(crate) fn copy_held(held: &Option<PathValue>) -> Result<Option<PathValue>, AllocError>
     ensures { IfOk result (λ h. at_top h ≡ at_top held.now) }
 {
     match held {

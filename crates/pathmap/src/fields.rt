@@ -11,7 +11,7 @@ ghost use Rattle.pathmap.specs.Cuts.{index_from};
 ghost use Rattle.pathmap.specs.Insides.{inside};
 ghost use Rattle.pathmap.specs.Levels.{child_of, has_path, IsRising};
 ghost use Rattle.pathmap.specs.Maps.{content, content_or_nothing, contents_in};
-ghost use Rattle.pathmap.specs.Merged.{front_of};
+ghost use Rattle.pathmap.specs.Merged.{prefix_of};
 
 use crate::pathmap::PathMap;
 use fieldpath::{ElemText, FIELD_PREFIX};
@@ -38,16 +38,16 @@ pub(crate) fn is_of_field(child: &(ElemText, PathMap), name: &str) -> bool
 
 /// How many have a name below the text of this field's element.
 fn place_of_field(below: &[(ElemText, PathMap)], name: &str) -> usize
-    ensures count { IsRising (contents_in below.now) → result ≡ length (front_of (name_text name.now) (contents_in below.now)) }
+    ensures count { IsRising (contents_in below.now) → result ≡ length (prefix_of (name_text name.now) (contents_in below.now)) }
     ensures within { result ≤ length below.now }
 {
     below.partition_point(|child| is_before_field(child, name))
 }
 
 /// Whether the one at a place is that of this field.
-fn field_stands_at(below: &[(ElemText, PathMap)], place: usize, name: &str) -> bool
+fn field_is_at(below: &[(ElemText, PathMap)], place: usize, name: &str) -> bool
     ensures within { result ≡ true → place < length below.now }
-    ensures index { IsRising (contents_in below.now) → place ≡ length (front_of (name_text name.now) (contents_in below.now)) → index_from 0 (name_text name.now) (contents_in below.now) ≡ (if result then Some place else None) }
+    ensures index { IsRising (contents_in below.now) → place ≡ length (prefix_of (name_text name.now) (contents_in below.now)) → index_from 0 (name_text name.now) (contents_in below.now) ≡ (if result then Some place else None) }
 {
     if place >= below.len() {
         return false;
@@ -60,7 +60,7 @@ fn field_named<'a>(below: &'a [(ElemText, PathMap)], name: &str) -> Option<&'a P
     ensures { IsRising (contents_in below.now) → option_map (λ m. content m.now) result ≡ child_of (name_text name.now) (contents_in below.now) }
 {
     let place = place_of_field(below, name);
-    if field_stands_at(below, place, name) {
+    if field_is_at(below, place, name) {
         return Some(&below[place].1);
     }
     None

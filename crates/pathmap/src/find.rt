@@ -8,11 +8,11 @@ ghost use Rattle.pathmap.specs.Beside.{has_at_or_below};
 ghost use Rattle.pathmap.specs.Contents.{dom, nothing};
 ghost use Rattle.pathmap.specs.Insides.{inside};
 ghost use Rattle.pathmap.specs.Levels.{child_of, has_path, IsRising};
-ghost use Rattle.pathmap.specs.Maps.{content, content_or_nothing, contents_in, standing};
+ghost use Rattle.pathmap.specs.Maps.{content, content_or_nothing, contents_in, leaf_value};
 
-use crate::held::Held;
+use crate::held::PathValue;
 use crate::pathmap::PathMap;
-use crate::place::{place_of, stands_at};
+use crate::place::{is_at, place_of};
 use fieldpath::{ElemText, Path};
 
 /// The map that has this name.
@@ -20,7 +20,7 @@ pub(crate) fn named<'a>(below: &'a [(ElemText, PathMap)], name: &ElemText) -> Op
     ensures { IsRising (contents_in below.now) → option_map (λ m. content m.now) result ≡ child_of (string_bytes name.now) (contents_in below.now) }
 {
     let place = place_of(below, name);
-    if stands_at(below, place, name) {
+    if is_at(below, place, name) {
         return Some(&below[place].1);
     }
     None
@@ -39,8 +39,8 @@ impl PathMap {
     }
 
     /// What stands at a path.
-    pub fn get(&self, path: &Path) -> Option<&Held>
-        ensures { option_map (λ h. standing h.now) result ≡ fin.get (content self.now) path.now }
+    pub fn get(&self, path: &Path) -> Option<&PathValue>
+        ensures { option_map (λ h. leaf_value h.now) result ≡ fin.get (content self.now) path.now }
     {
         match self.at(path.texts()) {
             Some(map) => map.held.as_ref(),

@@ -1,14 +1,14 @@
 //! What stands at one path: a value or a mark. The map of the paths stands in `pathmap`.
 
 ghost use Rattle.std.specs.Prelude.{◌≡◌, IfOk};
-ghost use Rattle.pathmap.specs.Beside.{same_standing};
-ghost use Rattle.pathmap.specs.Levels.{standing};
+ghost use Rattle.pathmap.specs.Beside.{same_leaf_value};
+ghost use Rattle.pathmap.specs.Levels.{leaf_value};
 
 use std::alloc::AllocError;
 
 /// What stands at a path of an object.
 #[derive(Debug, Drop)]
-pub enum Held {
+pub enum PathValue {
     Text(String),
     Whole(i64),
     Truth(bool),
@@ -18,30 +18,30 @@ pub enum Held {
     Mark,
 }
 
-impl Held {
+impl PathValue {
     /// A copy with texts of its own.
-    pub fn try_copy(&self) -> Result<Held, AllocError>
-        ensures { IfOk result (λ h. standing h ≡ standing self.now) }
+    pub fn try_copy(&self) -> Result<PathValue, AllocError>
+        ensures { IfOk result (λ h. leaf_value h ≡ leaf_value self.now) }
     {
         match self {
-            Held::Text(text) => Ok(Held::Text(text.clone()?)),
-            Held::Whole(number) => Ok(Held::Whole(*number)),
-            Held::Truth(truth) => Ok(Held::Truth(*truth)),
-            Held::Plain(text) => Ok(Held::Plain(text.clone()?)),
-            Held::Mark => Ok(Held::Mark),
+            PathValue::Text(text) => Ok(PathValue::Text(text.clone()?)),
+            PathValue::Whole(number) => Ok(PathValue::Whole(*number)),
+            PathValue::Truth(truth) => Ok(PathValue::Truth(*truth)),
+            PathValue::Plain(text) => Ok(PathValue::Plain(text.clone()?)),
+            PathValue::Mark => Ok(PathValue::Mark),
         }
     }
 
     /// Whether both are one value.
-    pub fn same(&self, other: &Held) -> bool
-        ensures { result ≡ same_standing (standing self.now) (standing other.now) }
+    pub fn same(&self, other: &PathValue) -> bool
+        ensures { result ≡ same_leaf_value (leaf_value self.now) (leaf_value other.now) }
     {
         match (self, other) {
-            (Held::Text(mine), Held::Text(theirs)) => mine.as_str() == theirs.as_str(),
-            (Held::Whole(mine), Held::Whole(theirs)) => *mine == *theirs,
-            (Held::Truth(mine), Held::Truth(theirs)) => *mine == *theirs,
-            (Held::Plain(mine), Held::Plain(theirs)) => mine.as_str() == theirs.as_str(),
-            (Held::Mark, Held::Mark) => true,
+            (PathValue::Text(mine), PathValue::Text(theirs)) => mine.as_str() == theirs.as_str(),
+            (PathValue::Whole(mine), PathValue::Whole(theirs)) => *mine == *theirs,
+            (PathValue::Truth(mine), PathValue::Truth(theirs)) => *mine == *theirs,
+            (PathValue::Plain(mine), PathValue::Plain(theirs)) => mine.as_str() == theirs.as_str(),
+            (PathValue::Mark, PathValue::Mark) => true,
             _ => false,
         }
     }

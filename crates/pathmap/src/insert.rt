@@ -5,12 +5,12 @@ ghost use Rattle.std.specs.FinMap as fin;
 ghost use Rattle.pathmap.specs.Contents.{here, mark, over, under};
 ghost use Rattle.pathmap.specs.Insides.{inside};
 ghost use Rattle.pathmap.specs.Levels.{child_of, has_path, IsRising};
-ghost use Rattle.pathmap.specs.Maps.{content, content_or_nothing, contents_in, standing};
+ghost use Rattle.pathmap.specs.Maps.{content, content_or_nothing, contents_in, leaf_value};
 ghost use Rattle.pathmap.specs.Puts.{put_in};
 
-use crate::held::Held;
+use crate::held::PathValue;
 use crate::pathmap::PathMap;
-use crate::place::{place_of, put_child, stands_at};
+use crate::place::{is_at, place_of, put_child};
 use fieldpath::{ElemText, Path};
 use std::alloc::{AllocError, Global};
 
@@ -20,13 +20,13 @@ fn insert_below(
     alloc: Global,
     name: &ElemText,
     rest: &[ElemText],
-    held: Held,
+    held: PathValue,
 ) -> Result<(), AllocError>
-    ensures ok { OnOk result (IsRising (contents_in below.old.items) → contents_in below.new.items ≡ put_in (string_bytes name.now) (fin.insert (content_or_nothing (child_of (string_bytes name.now) (contents_in below.old.items))) (map string_bytes rest.now) (standing held)) (contents_in below.old.items)) }
+    ensures ok { OnOk result (IsRising (contents_in below.old.items) → contents_in below.new.items ≡ put_in (string_bytes name.now) (fin.insert (content_or_nothing (child_of (string_bytes name.now) (contents_in below.old.items))) (map string_bytes rest.now) (leaf_value held)) (contents_in below.old.items)) }
     ensures err { OnErr result (contents_in below.new.items ≡ contents_in below.old.items) }
 {
     let place = place_of(below, name);
-    if stands_at(below, place, name) {
+    if is_at(below, place, name) {
         return insert_at(&mut below[place].1, alloc, rest, held);
     }
     let mut made = PathMap::empty(alloc);
@@ -40,9 +40,9 @@ fn insert_at(
     here: &mut PathMap,
     alloc: Global,
     texts: &[ElemText],
-    held: Held,
+    held: PathValue,
 ) -> Result<(), AllocError>
-    ensures ok { OnOk result (content here.new ≡ fin.insert (content here.old) (map string_bytes texts.now) (standing held)) }
+    ensures ok { OnOk result (content here.new ≡ fin.insert (content here.old) (map string_bytes texts.now) (leaf_value held)) }
     ensures err { OnErr result (content here.new ≡ content here.old) }
 {
     let Some((name, rest)) = texts.split_first() else {
@@ -54,8 +54,8 @@ fn insert_at(
 
 impl PathMap {
     /// Puts something at a path. A refused insert changes no content.
-    pub fn insert(&mut self, alloc: Global, path: &Path, held: Held) -> Result<(), AllocError>
-        ensures ok { OnOk result (content self.new ≡ fin.insert (content self.old) path.now (standing held)) }
+    pub fn insert(&mut self, alloc: Global, path: &Path, held: PathValue) -> Result<(), AllocError>
+        ensures ok { OnOk result (content self.new ≡ fin.insert (content self.old) path.now (leaf_value held)) }
         ensures err { OnErr result (content self.new ≡ content self.old) }
     {
         insert_at(self, alloc, path.texts(), held)
@@ -85,6 +85,6 @@ impl PathMap {
     pub fn mark(&mut self)
         ensures { content self.new ≡ over (here mark) (content self.old) }
     {
-        self.held = Some(Held::Mark);
+        self.held = Some(PathValue::Mark);
     }
 }

@@ -19,7 +19,7 @@ mod under;
 mod walk;
 mod without;
 
-pub use held::Held;
+pub use held::PathValue;
 pub use parts::Part;
 pub use pathmap::PathMap;
 pub use under::put_under;

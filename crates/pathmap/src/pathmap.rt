@@ -7,9 +7,9 @@ ghost use Rattle.std.specs.FinMap as fin;
 ghost use Rattle.pathmap.specs.Contents.{gather, here, nothing, over};
 ghost use Rattle.pathmap.specs.Insides.{heads, inside};
 ghost use Rattle.pathmap.specs.Levels.{AreChildren};
-ghost use Rattle.pathmap.specs.Maps.{at_top, content, contents_in, standing};
+ghost use Rattle.pathmap.specs.Maps.{at_top, content, contents_in, leaf_value};
 
-use crate::held::Held;
+use crate::held::PathValue;
 use fieldpath::ElemText;
 use std::alloc::{AllocError, Global};
 use std::marker::Model;
@@ -18,7 +18,7 @@ use std::marker::Model;
 #[derive(Debug, Drop)]
 pub struct PathMap {
     /// What stands at the empty path.
-    pub(crate) held: Option<Held>,
+    pub(crate) held: Option<PathValue>,
     /// What stands below, by the text of the first element: the texts ascend, and each map has a path.
     pub(crate) below: Vec<(ElemText, PathMap)>,
 }
@@ -66,8 +66,8 @@ impl PathMap {
     }
 
     /// What stands at the empty path alone.
-    pub fn leaf(alloc: Global, held: Held) -> PathMap
-        ensures { content result ≡ here (standing held) }
+    pub fn leaf(alloc: Global, held: PathValue) -> PathMap
+        ensures { content result ≡ here (leaf_value held) }
     {
         PathMap {
             held: Some(held),
@@ -76,8 +76,8 @@ impl PathMap {
     }
 
     /// What stands at the empty path.
-    pub fn held(&self) -> Option<&Held>
-        ensures { option_map (λ h. standing h.now) result ≡ fin.get (content self.now) [] }
+    pub fn held(&self) -> Option<&PathValue>
+        ensures { option_map (λ h. leaf_value h.now) result ≡ fin.get (content self.now) [] }
     {
         self.held.as_ref()
     }

@@ -5,21 +5,21 @@ ghost use Rattle.pathmap.specs.Contents.{dom, gather, in_order};
 ghost use Rattle.pathmap.specs.Levels.{IsRising};
 ghost use Rattle.pathmap.specs.Maps.{content, contents_in};
 
-use crate::held::Held;
+use crate::held::PathValue;
 use crate::pathmap::PathMap;
 use fieldpath::{ElemText, Path};
 use std::alloc::{AllocError, Global};
 
 fn list_held(
-    held: &Option<Held>,
+    held: &Option<PathValue>,
     alloc: Global,
-    front: &Path,
+    prefix: &Path,
     all: &mut Vec<Path>,
 ) -> Result<(), AllocError>
-    ensures { OnOk result (all.new.items ≡ all.old.items ++ (if is_some held.now then front.now ∷ [] else [])) }
+    ensures { OnOk result (all.new.items ≡ all.old.items ++ (if is_some held.now then prefix.now ∷ [] else [])) }
 {
     if held.is_some() {
-        all.push(front.try_copy(alloc)?)?;
+        all.push(prefix.try_copy(alloc)?)?;
     }
     Ok(())
 }
@@ -28,26 +28,31 @@ fn list_held(
 fn list_below(
     below: &[(ElemText, PathMap)],
     alloc: Global,
-    front: &Path,
+    prefix: &Path,
     all: &mut Vec<Path>,
 ) -> Result<(), AllocError>
-    ensures { OnOk result (IsRising (contents_in below.now) → all.new.items ≡ all.old.items ++ map (λ q. front.now ++ q) (in_order (dom (gather (contents_in below.now))))) }
+    ensures { OnOk result (IsRising (contents_in below.now) → all.new.items ≡ all.old.items ++ map (λ q. prefix.now ++ q) (in_order (dom (gather (contents_in below.now))))) }
 {
     for (name, inner) in below {
-        let mut path = front.try_copy(alloc)?;
+        let mut path = prefix.try_copy(alloc)?;
         path.push(alloc, name)?;
         list(inner, alloc, &path, all)?;
     }
     Ok(())
 }
 
-/// Each path of the map, with the front before it.
+/// Each path of the map, with the prefix before it.
 #[cycle(list)]
-fn list(below: &PathMap, alloc: Global, front: &Path, all: &mut Vec<Path>) -> Result<(), AllocError>
-    ensures { OnOk result (all.new.items ≡ all.old.items ++ map (λ q. front.now ++ q) (in_order (dom (content below.now)))) }
+fn list(
+    below: &PathMap,
+    alloc: Global,
+    prefix: &Path,
+    all: &mut Vec<Path>,
+) -> Result<(), AllocError>
+    ensures { OnOk result (all.new.items ≡ all.old.items ++ map (λ q. prefix.now ++ q) (in_order (dom (content below.now)))) }
 {
-    list_held(&below.held, alloc, front, all)?;
-    list_below(&below.below, alloc, front, all)
+    list_held(&below.held, alloc, prefix, all)?;
+    list_below(&below.below, alloc, prefix, all)
 }
 
 impl PathMap {

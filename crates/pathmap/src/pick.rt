@@ -8,11 +8,11 @@ ghost use Rattle.pathmap.specs.Contents.{dom, mark, marked, nothing};
 ghost use Rattle.pathmap.specs.Beside.{changed, clear_of, is_empty, is_unchanged, is_within};
 ghost use Rattle.pathmap.specs.Insides.{inside};
 ghost use Rattle.pathmap.specs.Levels.{child_of, IsRising};
-ghost use Rattle.pathmap.specs.Maps.{content, content_or_nothing, contents_in, standing};
+ghost use Rattle.pathmap.specs.Maps.{content, content_or_nothing, contents_in, leaf_value};
 ghost use Rattle.pathmap.specs.Picks.{kept, no_child, picked, picked_in, picks, picks_alone, picks_some};
 
 use crate::copying::push_made;
-use crate::held::Held;
+use crate::held::PathValue;
 use crate::pathmap::PathMap;
 use crate::walk::{skip, split_named};
 use fieldpath::ElemText;
@@ -33,8 +33,8 @@ enum Rule {
 
 impl Rule {
     /// Whether the empty path is picked, beside a map.
-    fn picks(self, mine: &Held, theirs: &PathMap) -> bool
-        ensures { result ≡ picks self (standing mine.now) (content theirs.now) }
+    fn picks(self, mine: &PathValue, theirs: &PathMap) -> bool
+        ensures { result ≡ picks self (leaf_value mine.now) (content theirs.now) }
     {
         match self {
             Rule::Absent => theirs.held.is_none(),
@@ -58,8 +58,8 @@ impl Rule {
     }
 }
 
-fn is_picked(rule: Rule, mine: &Held, theirs: Option<&PathMap>) -> bool
-    ensures { result ≡ picks rule (standing mine.now) (content_or_nothing (option_map (λ m. m.now) theirs.entry)) }
+fn is_picked(rule: Rule, mine: &PathValue, theirs: Option<&PathMap>) -> bool
+    ensures { result ≡ picks rule (leaf_value mine.now) (content_or_nothing (option_map (λ m. m.now) theirs.entry)) }
 {
     match theirs {
         Some(map) => rule.picks(mine, map),
@@ -68,8 +68,8 @@ fn is_picked(rule: Rule, mine: &Held, theirs: Option<&PathMap>) -> bool
 }
 
 /// Whether something stands at the empty path and is picked.
-fn picks_held(rule: Rule, mine: &Option<Held>, theirs: Option<&PathMap>) -> bool
-    ensures { result ≡ picks_some rule (option_map standing mine.now) (content_or_nothing (option_map (λ m. m.now) theirs.entry)) }
+fn picks_held(rule: Rule, mine: &Option<PathValue>, theirs: Option<&PathMap>) -> bool
+    ensures { result ≡ picks_some rule (option_map leaf_value mine.now) (content_or_nothing (option_map (λ m. m.now) theirs.entry)) }
 {
     match mine {
         Some(held) => is_picked(rule, held, theirs),
@@ -77,11 +77,11 @@ fn picks_held(rule: Rule, mine: &Option<Held>, theirs: Option<&PathMap>) -> bool
     }
 }
 
-fn pick_held(rule: Rule, mine: &Option<Held>, theirs: Option<&PathMap>) -> Option<Held>
-    ensures { option_map standing result ≡ (if picks_some rule (option_map standing mine.now) (content_or_nothing (option_map (λ m. m.now) theirs.entry)) then Some mark else None) }
+fn pick_held(rule: Rule, mine: &Option<PathValue>, theirs: Option<&PathMap>) -> Option<PathValue>
+    ensures { option_map leaf_value result ≡ (if picks_some rule (option_map leaf_value mine.now) (content_or_nothing (option_map (λ m. m.now) theirs.entry)) then Some mark else None) }
 {
     if picks_held(rule, mine, theirs) {
-        Some(Held::Mark)
+        Some(PathValue::Mark)
     } else {
         None
     }

@@ -8,7 +8,7 @@ ghost use Rattle.std.specs.Str.{bytes_eq};
 ghost use Rattle.pathmap.specs.Cuts.{index_from};
 ghost use Rattle.pathmap.specs.Levels.{child_of, IsRising};
 ghost use Rattle.pathmap.specs.Maps.{content, contents_in};
-ghost use Rattle.pathmap.specs.Merged.{front_of};
+ghost use Rattle.pathmap.specs.Merged.{prefix_of};
 ghost use Rattle.pathmap.specs.Puts.{put_in};
 
 use crate::pathmap::PathMap;
@@ -31,7 +31,7 @@ pub(crate) fn is_named(child: &(ElemText, PathMap), name: &ElemText) -> bool
 
 /// How many have a name below this one. A name above all others needs no search.
 pub(crate) fn place_of(below: &[(ElemText, PathMap)], name: &ElemText) -> usize
-    ensures count { IsRising (contents_in below.now) → result ≡ length (front_of (string_bytes name.now) (contents_in below.now)) }
+    ensures count { IsRising (contents_in below.now) → result ≡ length (prefix_of (string_bytes name.now) (contents_in below.now)) }
     ensures within { result ≤ length below.now }
 {
     let count = below.len();
@@ -45,9 +45,9 @@ pub(crate) fn place_of(below: &[(ElemText, PathMap)], name: &ElemText) -> usize
 }
 
 /// Whether the one at a place has this name.
-pub(crate) fn stands_at(below: &[(ElemText, PathMap)], place: usize, name: &ElemText) -> bool
+pub(crate) fn is_at(below: &[(ElemText, PathMap)], place: usize, name: &ElemText) -> bool
     ensures within { result ≡ true → place < length below.now }
-    ensures index { IsRising (contents_in below.now) → place ≡ length (front_of (string_bytes name.now) (contents_in below.now)) → index_from 0 (string_bytes name.now) (contents_in below.now) ≡ (if result then Some place else None) }
+    ensures index { IsRising (contents_in below.now) → place ≡ length (prefix_of (string_bytes name.now) (contents_in below.now)) → index_from 0 (string_bytes name.now) (contents_in below.now) ≡ (if result then Some place else None) }
 {
     if place >= below.len() {
         return false;
@@ -66,7 +66,7 @@ pub(crate) fn put_child(
     ensures err { OnErr result (contents_in children.new.items ≡ contents_in children.old.items) }
 {
     let place = place_of(children, &name);
-    if stands_at(children, place, &name) {
+    if is_at(children, place, &name) {
         return Ok(false);
     }
     children.insert(place, (name, map))?;

@@ -6,13 +6,16 @@ ghost use Rattle.pathmap.specs.Maps.{at_top, content, contents_in, either_top};
 ghost use Rattle.pathmap.specs.Merged.{join_on, left_of, merged};
 
 use crate::copying::{copy_held, push_copies};
-use crate::held::Held;
+use crate::held::PathValue;
 use crate::pathmap::PathMap;
 use crate::walk::{pass, split_named};
 use fieldpath::ElemText;
 use std::alloc::{AllocError, Global};
 
-fn fill_held(mine: Option<Held>, theirs: &Option<Held>) -> Result<Option<Held>, AllocError>
+fn fill_held(
+    mine: Option<PathValue>,
+    theirs: &Option<PathValue>,
+) -> Result<Option<PathValue>, AllocError>
     ensures { IfOk result (λ h. at_top h ≡ either_top mine theirs.now) }
 {
     match mine {

@@ -5,7 +5,7 @@ ghost use Rattle.std.specs.Prelude.{◌≡◌, ◌++◌, ◌≤◌, length, IfOk
 ghost use Rattle.std.specs.Option.{option_map};
 ghost use Rattle.pathmap.specs.Levels.{IsRising};
 ghost use Rattle.pathmap.specs.Maps.{content, contents_in};
-ghost use Rattle.pathmap.specs.Merged.{back_of, first_of, front_of, left_of};
+ghost use Rattle.pathmap.specs.Merged.{back_of, first_of, prefix_of, left_of};
 
 use crate::copying::push_copies;
 use crate::pathmap::PathMap;
@@ -15,7 +15,7 @@ use std::alloc::{AllocError, Global};
 
 /// How many at the front have a name below this one.
 pub(crate) fn count_before(entries: &[(ElemText, PathMap)], name: &ElemText) -> usize
-    ensures count { result ≡ length (front_of (string_bytes name.now) (contents_in entries.now)) }
+    ensures count { result ≡ length (prefix_of (string_bytes name.now) (contents_in entries.now)) }
     ensures within { result ≤ length entries.now }
 {
     let mut count = 0;
@@ -36,7 +36,7 @@ pub(crate) fn pass<'a>(
     name: &ElemText,
     all: &mut Vec<(ElemText, PathMap)>,
 ) -> Result<&'a [(ElemText, PathMap)], AllocError>
-    ensures passed { OnOk result (contents_in all.new.items ≡ contents_in all.old.items ++ front_of (string_bytes name.now) (contents_in rest.now)) }
+    ensures passed { OnOk result (contents_in all.new.items ≡ contents_in all.old.items ++ prefix_of (string_bytes name.now) (contents_in rest.now)) }
     ensures left { IfOk result (λ r. contents_in r.now ≡ back_of (string_bytes name.now) (contents_in rest.now)) }
 {
     let count = count_before(rest, name);

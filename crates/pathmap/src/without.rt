@@ -8,7 +8,7 @@ ghost use Rattle.pathmap.specs.Levels.{has_path, IsRising};
 ghost use Rattle.pathmap.specs.Maps.{content, contents_in};
 
 use crate::pathmap::PathMap;
-use crate::place::{place_of, stands_at};
+use crate::place::{is_at, place_of};
 use fieldpath::ElemText;
 
 fn is_full(child: &(ElemText, PathMap)) -> bool
@@ -29,7 +29,7 @@ fn cut_child(set: &PathMap, name: &ElemText, below: &mut Vec<(ElemText, PathMap)
     ensures { IsRising (contents_in below.old.items) → contents_in below.new.items ≡ cut_at (string_bytes name.now) (content set.now) (contents_in below.old.items) }
 {
     let place = place_of(below, name);
-    if stands_at(below, place, name) {
+    if is_at(below, place, name) {
         cut(set, &mut below[place].1);
     }
 }

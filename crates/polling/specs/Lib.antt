@@ -1,2 +1,2 @@
 pub mod Happens
-pub mod ServerSeen
+pub mod ServerViews

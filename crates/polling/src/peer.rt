@@ -2,10 +2,10 @@
 
 ghost use Rattle.std.specs.Prelude.{◌≡◌, [], false};
 ghost use Rattle.httpedge.specs.Connections.{out_on, waiting_on};
-ghost use Rattle.httpedge.specs.HubSeen.{IsIn};
+ghost use Rattle.httpedge.specs.HubViews.{HubRepresents};
 ghost use Rattle.httpedge.specs.Steps.{State};
-ghost use Rattle.polling.specs.Happens.{LeadsOn};
-ghost use Rattle.polling.specs.ServerSeen.{lingers};
+ghost use Rattle.polling.specs.Happens.{ReachesOn};
+ghost use Rattle.polling.specs.ServerViews.{lingers};
 
 use crate::reading::{Readout, hand_over};
 use crate::stream::Stream;
@@ -29,10 +29,10 @@ pub enum Next {
     Over,
 }
 
-/// How many bytes the lines of a turn may have until later turns tell fewer: 256 KiB.
+/// How many bytes the lines of a turn may have until later turns send fewer: 256 KiB.
 const TURN_BYTES: u64 = 262144;
 
-/// How many lines the first turn of a watch tells at most, and one after a turn that told none.
+/// How many lines the first turn of a watch sends at most, and one after a turn that sent none.
 const FIRST_LINES: u64 = 8;
 
 /// How many line feeds a line of a watch has: behind its chunk's size, its own, and behind its chunk.
@@ -49,20 +49,20 @@ fn lines_in(out: &[u8]) -> u64 {
     feeds / FEEDS
 }
 
-/// How many lines a watch may tell in its next turn, after one that might tell so many and made these bytes: as many as make
+/// How many lines a watch may send in its next turn, after one that might send so many and made these bytes: as many as make
 /// a turn's bytes where lines are as large as these; twice as many at most, and one at least.
 fn next_lines(lines: u64, out: &[u8]) -> u64 {
     let made = out.len() as u64;
     if made == 0 {
         return FIRST_LINES;
     }
-    let told = if lines > FIRST_LINES {
+    let sent_lines = if lines > FIRST_LINES {
         lines_in(out)
     } else {
         lines
     };
-    let fitting = told.saturating_mul(TURN_BYTES) / made;
-    fitting.min(told.saturating_mul(2)).max(1)
+    let fitting = sent_lines.saturating_mul(TURN_BYTES) / made;
+    fitting.min(sent_lines.saturating_mul(2)).max(1)
 }
 
 /// A connection whose peer may have sent more has a turn again.
@@ -86,7 +86,7 @@ pub struct Peer<S: Drop> {
     is_blocked: bool,
     /// It watches, and may have more lines to write.
     is_behind: bool,
-    /// How many lines its next turn tells at most, beside what the server is asked for.
+    /// How many lines its next turn sends at most, beside what the server is asked for.
     lines: u64,
     /// How many bytes the lines of its last turn had.
     made: u64,
@@ -122,7 +122,7 @@ impl<S: Read + Write + Stream + Drop> Peer<S> {
         self.made
     }
 
-    /// Notes what its turn made, which might tell so many lines.
+    /// Notes what its turn made, which might send so many lines.
     fn note_made(&mut self, lines: u64, out: &[u8]) {
         self.made = out.len() as u64;
         self.is_behind = !out.is_empty();
@@ -131,7 +131,7 @@ impl<S: Read + Write + Stream + Drop> Peer<S> {
 
     /// Whether the server waits for the peer: for the rest of its request, to take what waits for it, or to close.
     fn keeps_waiting(&self, hub: &Hub, id: u64) -> bool
-        ensures { (s : State) → IsIn hub.now s → waiting_on s.connections id ≡ false → out_on s.connections id ≡ [] → lingers self.now ≡ false → result ≡ false }
+        ensures { (s : State) → HubRepresents hub.now s → waiting_on s.connections id ≡ false → out_on s.connections id ≡ [] → lingers self.now ≡ false → result ≡ false }
     {
         if self.is_lingering {
             return true;
@@ -142,7 +142,7 @@ impl<S: Read + Write + Stream + Drop> Peer<S> {
     /// Whether the server has waited for the peer for more than so many milliseconds. For a watch on which nothing waits it
     /// doesn't wait.
     pub fn is_silent(&self, hub: &Hub, id: u64, now: Instant, patience: u64) -> bool
-        ensures { (s : State) → IsIn hub.now s → waiting_on s.connections id ≡ false → out_on s.connections id ≡ [] → lingers self.now ≡ false → result ≡ false }
+        ensures { (s : State) → HubRepresents hub.now s → waiting_on s.connections id ≡ false → out_on s.connections id ≡ [] → lingers self.now ≡ false → result ≡ false }
     {
         if !self.keeps_waiting(hub, id) {
             return false;
@@ -161,7 +161,7 @@ impl<S: Read + Write + Stream + Drop> Peer<S> {
         id: u64,
         now: Instant,
     ) -> Next
-        ensures { LeadsOn id hub.old hub.new }
+        ensures { ReachesOn id hub.old hub.new }
     {
         if hub.wants(id) {
             self.since = now;
@@ -182,7 +182,7 @@ impl<S: Read + Write + Stream + Drop> Peer<S> {
         lines: u64,
         now: Instant,
     ) -> Next
-        ensures { LeadsOn id hub.old hub.new }
+        ensures { ReachesOn id hub.old hub.new }
     {
         self.is_behind = true;
         self.made = 0;
@@ -200,7 +200,7 @@ impl<S: Read + Write + Stream + Drop> Peer<S> {
 
     /// Writes what is out.
     fn flush(&mut self, hub: &mut Hub, id: u64, now: Instant) -> Next
-        ensures { LeadsOn id hub.old hub.new }
+        ensures { ReachesOn id hub.old hub.new }
     {
         let waiting = hub.out(id).len();
         let written = write_out(hub, id, &mut self.stream);

@@ -4,7 +4,7 @@
 ghost use Rattle.std.specs.Prelude.{◌≡◌};
 ghost use Rattle.serde_json.specs.View.{view};
 ghost use Rattle.httpedge.specs.Steps.{retypes};
-ghost use Rattle.polling.specs.Happens.{Answers, Leads, LeadsOn};
+ghost use Rattle.polling.specs.Happens.{Answers, Reaches, ReachesOn};
 
 use crate::options::Options;
 use crate::peer::{Next, Peer};
@@ -61,7 +61,7 @@ impl Entry {
 
 /// A connection is over: unless all of its reply was written, its peer has gone.
 fn part<O: Observer>(hub: &mut Hub, observer: &mut O, id: u64)
-    ensures { LeadsOn id hub.old hub.new }
+    ensures { ReachesOn id hub.old hub.new }
 {
     if hub.ended(id) && hub.out(id).is_empty() {
         return;
@@ -96,7 +96,7 @@ pub(crate) struct Peers {
     /// Connections may wait to be accepted.
     accepts: bool,
     /// One couldn't be accepted: the listener isn't reported again for it, so a close or a tick tries again.
-    is_starved: bool,
+    must_accept_again: bool,
     /// The highest id so far.
     highest: u64,
     /// How many connections are over.
@@ -131,7 +131,7 @@ impl Peers {
             made: 0,
             put_off: None,
             accepts: true,
-            is_starved: false,
+            must_accept_again: false,
             highest: 0,
             closed: 0,
             revision: 0,
@@ -162,7 +162,7 @@ impl Peers {
 
     /// The system reports a connection, or the listener.
     pub(crate) fn take_report<O: Observer>(&mut self, observer: &mut O, token: Token, now: Instant)
-        ensures { Leads self.old.hub self.new.hub }
+        ensures { Reaches self.old.hub self.new.hub }
     {
         if token == LISTENER {
             self.accepts = true;
@@ -173,7 +173,7 @@ impl Peers {
 
     /// The turns of those that have one again.
     pub(crate) fn look_again<O: Observer>(&mut self, observer: &mut O, now: Instant)
-        ensures { Leads self.old.hub self.new.hub }
+        ensures { Reaches self.old.hub self.new.hub }
     {
         let again = std::mem::replace(&mut self.again, Vec::new(self.alloc));
         for id in &again {
@@ -183,7 +183,7 @@ impl Peers {
 
     /// Accepts the connections that wait.
     pub(crate) fn accept_all<O: Observer>(&mut self, observer: &mut O, now: Instant)
-        ensures { Leads self.old.hub self.new.hub }
+        ensures { Reaches self.old.hub self.new.hub }
     {
         'accepts: for _ in 0..ACCEPTS {
             if !self.accepts {
@@ -194,7 +194,7 @@ impl Peers {
     }
 
     fn accept<O: Observer>(&mut self, observer: &mut O, now: Instant)
-        ensures { Leads self.old.hub self.new.hub }
+        ensures { Reaches self.old.hub self.new.hub }
     {
         let Some(stream) = self.next_stream() else {
             return;
@@ -212,7 +212,7 @@ impl Peers {
             Err(e) if e.kind() == ErrorKind::ConnectionAborted => {}
             Err(_) => {
                 self.accepts = false;
-                self.is_starved = true;
+                self.must_accept_again = true;
             }
         }
         None
@@ -220,10 +220,10 @@ impl Peers {
 
     /// What is done after the turns of connections, in this order: each second the hub's tick; a compaction, where one is due;
     /// and the turns of the watches. So a watch gets what came in one turn, or is told that it is forgotten,
-    /// unless more is left for it than one pump tells, or its bytes still wait for its peer. Each second ends the
+    /// unless more is left for it than one pump sends, or its bytes still wait for its peer. Each second ends the
     /// connections whose peers are silent.
     pub(crate) fn settle<O: Observer>(&mut self, observer: &mut O, now: Instant)
-        ensures { Leads self.old.hub self.new.hub }
+        ensures { Reaches self.old.hub self.new.hub }
     {
         let is_second = self.tick(observer, now);
         let is_risen = self.compact(observer, is_second);
@@ -242,7 +242,7 @@ impl Peers {
         now: Instant,
     ) -> Result<(), HubFault>
         ensures answers { Answers (retypes (view file)) result self.old.hub self.new.hub }
-        ensures leads { Leads self.old.hub self.new.hub }
+        ensures reaches { Reaches self.old.hub self.new.hub }
     {
         let done = on(&mut self.hub, observer, &Event::Retype(file));
         self.settle(observer, now);
@@ -251,7 +251,7 @@ impl Peers {
 
     /// The hub's tick, each second; whether it is due.
     fn tick<O: Observer>(&mut self, observer: &mut O, now: Instant) -> bool
-        ensures { Leads self.old.hub self.new.hub }
+        ensures { Reaches self.old.hub self.new.hub }
     {
         let is_early = now.duration_since(self.ticked) < Duration::from_millis(TICK);
         if is_early {
@@ -267,7 +267,7 @@ impl Peers {
     /// Forgets what isn't kept, where that is worth a statement: each second, or once as much again is kept. Whether
     /// something was written since it was last asked.
     fn compact<O: Observer>(&mut self, observer: &mut O, is_second: bool) -> bool
-        ensures { Leads self.old.hub self.new.hub }
+        ensures { Reaches self.old.hub self.new.hub }
     {
         let keep = self.options.keep;
         let (revision, compacted) = self.hub.marks().unwrap_or((self.revision, 0));
@@ -283,15 +283,15 @@ impl Peers {
     fn accept_anew(&mut self)
         ensures { self.new.hub ≡ self.old.hub }
     {
-        if self.is_starved {
-            self.is_starved = false;
+        if self.must_accept_again {
+            self.must_accept_again = false;
             self.accepts = true;
         }
     }
 
     /// A connection has its first turn. Out of memory, it has none and is over: the peer sees it closed.
     fn open<O: Observer>(&mut self, observer: &mut O, stream: TcpStream, now: Instant)
-        ensures { Leads self.old.hub self.new.hub }
+        ensures { Reaches self.old.hub self.new.hub }
     {
         let Some(id) = self.highest.checked_add(1) else {
             return;
@@ -315,7 +315,7 @@ impl Peers {
     }
 
     fn look<O: Observer>(&mut self, observer: &mut O, id: u64, now: Instant)
-        ensures { Leads self.old.hub self.new.hub }
+        ensures { Reaches self.old.hub self.new.hub }
     {
         let Some(entry) = self.entries.get_mut(&id) else {
             return;
@@ -342,7 +342,7 @@ impl Peers {
     /// Each watch has its turn; unless all do, those alone that have more lines. These have none once such turns have made so
     /// many bytes; the next round begins with the first of them that had none.
     fn pump_watches<O: Observer>(&mut self, observer: &mut O, all: bool, now: Instant)
-        ensures { Leads self.old.hub self.new.hub }
+        ensures { Reaches self.old.hub self.new.hub }
     {
         if !all && !self.has_lines {
             return;
@@ -366,7 +366,7 @@ impl Peers {
         all: bool,
         now: Instant,
     )
-        ensures { Leads self.old.hub self.new.hub }
+        ensures { Reaches self.old.hub self.new.hub }
     {
         let end = end.min(self.watches.len());
         for at in first..end {
@@ -375,7 +375,7 @@ impl Peers {
     }
 
     fn pump_at<O: Observer>(&mut self, observer: &mut O, at: usize, all: bool, now: Instant)
-        ensures { Leads self.old.hub self.new.hub }
+        ensures { Reaches self.old.hub self.new.hub }
     {
         let Some(id) = self.watches.get(at) else {
             return;
@@ -407,7 +407,7 @@ impl Peers {
 
     /// The turn of a watch, whose bytes count where it had more lines.
     fn pump_watch<O: Observer>(&mut self, observer: &mut O, id: u64, goes_on: bool, now: Instant)
-        ensures { Leads self.old.hub self.new.hub }
+        ensures { Reaches self.old.hub self.new.hub }
     {
         let Some(entry) = self.entries.get_mut(&id) else {
             return;
@@ -422,7 +422,7 @@ impl Peers {
 
     /// Does what a connection waits for after its turn.
     fn follow<O: Observer>(&mut self, observer: &mut O, id: u64, next: Next)
-        ensures { Leads self.old.hub self.new.hub }
+        ensures { Reaches self.old.hub self.new.hub }
     {
         let goes_on = self.await_next(id, next);
         if !goes_on {
@@ -485,7 +485,7 @@ impl Peers {
     }
 
     fn drop_silent<O: Observer>(&mut self, observer: &mut O, now: Instant)
-        ensures { Leads self.old.hub self.new.hub }
+        ensures { Reaches self.old.hub self.new.hub }
     {
         let silent = self.silent(now);
         for id in &silent {
@@ -495,7 +495,7 @@ impl Peers {
 
     /// A connection is over: its stream is closed, by which the system reports it no more.
     fn close<O: Observer>(&mut self, observer: &mut O, id: u64)
-        ensures { Leads self.old.hub self.new.hub }
+        ensures { Reaches self.old.hub self.new.hub }
     {
         if self.entries.remove(&id).is_none() {
             return;

@@ -2,7 +2,7 @@
 
 ghost use Rattle.std.specs.Prelude.{List, ℕ};
 ghost use Rattle.std.specs.Io.KnownBytes.{Consumes};
-ghost use Rattle.polling.specs.Happens.{Hears};
+ghost use Rattle.polling.specs.Happens.{Receives};
 
 use httpedge::{Event, Hub};
 use observing::{Observer, hand};
@@ -33,7 +33,7 @@ fn hand_piece<O: Observer, R: Read>(
     id: u64,
     reader: &mut R,
 ) -> io::Result<Readout>
-    ensures { (heard : List ℕ) × Consumes (R.remaining reader.old) (R.remaining reader.new) heard × Hears id heard hub.old hub.new }
+    ensures { (received : List ℕ) × Consumes (R.remaining reader.old) (R.remaining reader.new) received × Receives id received hub.old hub.new }
 {
     let piece = read_piece(alloc, reader)?;
     if piece.is_empty() {
@@ -52,7 +52,7 @@ pub fn hand_over<O: Observer, R: Read>(
     id: u64,
     reader: &mut R,
 ) -> io::Result<Readout>
-    ensures { (heard : List ℕ) × Consumes (R.remaining reader.old) (R.remaining reader.new) heard × Hears id heard hub.old hub.new }
+    ensures { (received : List ℕ) × Consumes (R.remaining reader.old) (R.remaining reader.new) received × Receives id received hub.old hub.new }
 {
     'reads: for _ in 0..READS {
         match hand_piece(alloc, hub, observer, id, reader) {

@@ -3,12 +3,12 @@
 ghost use Rattle.std.specs.Prelude.{◌≡◌, ◌≤◌, IfOk, List, Ok, OnOk};
 ghost use Rattle.api_types.specs.TypesFile.{ServedShape};
 ghost use Rattle.history.specs.History.{History};
-ghost use Rattle.verbs.specs.Seen.{Stands};
-ghost use Rattle.httpedge.specs.HubSeen.{IsIn};
+ghost use Rattle.verbs.specs.Views.{ApiRepresents};
+ghost use Rattle.httpedge.specs.HubViews.{HubRepresents};
 ghost use Rattle.httpedge.specs.Steps.{State, retypes, start};
 ghost use Rattle.serde_json.specs.View.{view};
-ghost use Rattle.polling.specs.Happens.{Answers, Leads};
-ghost use Rattle.polling.specs.ServerSeen.{hub_of, over_of};
+ghost use Rattle.polling.specs.Happens.{Answers, Reaches};
+ghost use Rattle.polling.specs.ServerViews.{hub_of, over_of};
 
 use crate::options::Options;
 use crate::peers::{LISTENER, Peers};
@@ -28,7 +28,7 @@ use verbs::{Api, Fault};
 const EVENTS: usize = 1024;
 
 fn take_reports<O: Observer>(peers: &mut Peers, observer: &mut O, events: &Events, now: Instant)
-    ensures { Leads peers.old.hub peers.new.hub }
+    ensures { Reaches peers.old.hub peers.new.hub }
 {
     for event in events {
         peers.take_report(observer, event.token(), now);
@@ -49,7 +49,7 @@ impl Server {
         api: Api,
         options: Options,
     ) -> io::Result<Server>
-        ensures { IfOk result (λ server. (types : List ServedShape) (m : History) → Stands api types m → IsIn (hub_of server) (start types m)) }
+        ensures { IfOk result (λ server. (types : List ServedShape) (m : History) → ApiRepresents api types m → HubRepresents (hub_of server) (start types m)) }
     {
         let alloc = rt.alloc();
         let addr = SocketAddr::from((Ipv4Addr::LOCALHOST, options.port));
@@ -73,7 +73,7 @@ impl Server {
     /// reported has its turn, and those that wait are accepted; then comes the tick, each second; what isn't kept is
     /// forgotten; and the watches get what was written.
     pub fn turn<O: Observer, R: Clock>(&mut self, rt: &R, observer: &mut O) -> io::Result<()>
-        ensures { Leads (hub_of self.old) (hub_of self.new) }
+        ensures { Reaches (hub_of self.old) (hub_of self.new) }
     {
         let before = Instant::now(rt)?;
         self.peers.wait(&mut self.events, before)?;
@@ -93,14 +93,14 @@ impl Server {
         now: Instant,
     ) -> Result<(), HubFault>
         ensures answers { Answers (retypes (view file)) result (hub_of self.old) (hub_of self.new) }
-        ensures leads { Leads (hub_of self.old) (hub_of self.new) }
+        ensures reaches { Reaches (hub_of self.old) (hub_of self.new) }
     {
         self.peers.retype(observer, file, now)
     }
 
     /// The revision that stands now.
     pub fn revision(&self) -> Result<u64, Fault>
-        ensures { (s : State) → IsIn (hub_of self.now) s → result ≡ Ok s.machine.current }
+        ensures { (s : State) → HubRepresents (hub_of self.now) s → result ≡ Ok s.machine.current }
     {
         Ok(self.peers.hub.marks()?.0)
     }
@@ -119,7 +119,7 @@ impl Server {
         observer: &mut O,
         most: u64,
     ) -> io::Result<()>
-        ensures leads { Leads (hub_of self.old) (hub_of self.new) }
+        ensures reaches { Reaches (hub_of self.old) (hub_of self.new) }
         ensures served { OnOk result (most ≤ over_of self.new) }
     {
         'turns: for _ in 0..u64::MAX {

@@ -3,9 +3,9 @@
 ghost use Rattle.std.specs.Prelude.{◌≡◌, IfOk, List, [], ℕ};
 ghost use Rattle.std.specs.Io.KnownBytes.{Appends};
 ghost use Rattle.httpedge.specs.Connections.{out_on};
-ghost use Rattle.httpedge.specs.HubSeen.{IsIn};
+ghost use Rattle.httpedge.specs.HubViews.{HubRepresents};
 ghost use Rattle.httpedge.specs.Steps.{State};
-ghost use Rattle.polling.specs.Happens.{Tells};
+ghost use Rattle.polling.specs.Happens.{SendsBytes};
 
 use httpedge::Hub;
 use std::io;
@@ -37,8 +37,8 @@ fn written_by(count: usize) -> io::Result<Written>
 
 /// One write, whose bytes are taken of the connection.
 fn write_piece<W: Write>(hub: &mut Hub, id: u64, writer: &mut W) -> io::Result<Written>
-    ensures told { (told : List ℕ) × Appends (W.contents writer.old) (W.contents writer.new) told × Tells id told hub.old hub.new }
-    ensures all { IfOk result (λ written. written ≡ Written.All → (s : State) → IsIn hub.new s → out_on s.connections id ≡ []) }
+    ensures sent_bytes { (sent_bytes : List ℕ) × Appends (W.contents writer.old) (W.contents writer.new) sent_bytes × SendsBytes id sent_bytes hub.old hub.new }
+    ensures all { IfOk result (λ written. written ≡ Written.All → (s : State) → HubRepresents hub.new s → out_on s.connections id ≡ []) }
 {
     httpedge::bytes_are_taken();
     let out = hub.out(id);
@@ -53,8 +53,8 @@ fn write_piece<W: Write>(hub: &mut Hub, id: u64, writer: &mut W) -> io::Result<W
 /// Writes what is out on the connection, as far as the turn goes, and takes it: the bytes that the writer got are the
 /// first of those that were out, in order, and the rest is out still, whatever failed.
 pub fn write_out<W: Write>(hub: &mut Hub, id: u64, writer: &mut W) -> io::Result<Written>
-    ensures told { (told : List ℕ) × Appends (W.contents writer.old) (W.contents writer.new) told × Tells id told hub.old hub.new }
-    ensures all { IfOk result (λ written. written ≡ Written.All → (s : State) → IsIn hub.new s → out_on s.connections id ≡ []) }
+    ensures sent_bytes { (sent_bytes : List ℕ) × Appends (W.contents writer.old) (W.contents writer.new) sent_bytes × SendsBytes id sent_bytes hub.old hub.new }
+    ensures all { IfOk result (λ written. written ≡ Written.All → (s : State) → HubRepresents hub.new s → out_on s.connections id ≡ []) }
 {
     'writes: for _ in 0..WRITES {
         match write_piece(hub, id, writer) {

@@ -16,4 +16,4 @@ pub cut : (bs : List ℕ) (r : Option (Bor (List ℕ) × Bor (List ℕ)))
     → MatchOption r (position_or_len is_slash bs ≡ length bs) (λ x. (position_or_len is_slash bs < length bs) × (x.0.now ≡ before_first is_slash bs) × (x.1.now ≡ after_first is_slash bs))
     → option_map (λ x. (x.0.now, x.1.now)) r ≡ cut_at_slash bs
 cut bs None h = rw (list_any-none is_slash bs h) refl
-cut bs (Some x) h = rw (some_of bs h.0) (ap₂ (λ front back. Some (front, back)) h.1 h.2)
+cut bs (Some x) h = rw (some_of bs h.0) (ap₂ (λ prefix back. Some (prefix, back)) h.1 h.2)

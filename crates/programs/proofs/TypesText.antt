@@ -2,19 +2,19 @@
 use Rattle.std.proofs.Common.{◌≡◌, ℕ, List, Some, Err}
 use Rattle.serde_json.specs.Data.{Data}
 use Rattle.serde_json.specs.Read.{read as read_json}
-use Rattle.programs.specs.ReplayProgram.{IsRefused, Tells}
+use Rattle.programs.specs.ReplayProgram.{IsRefused, ReadsTypesFile}
 use Rattle.programs.specs.declared.run_fault.RunFault.{RunFault}
 use Rattle.programs.specs.declared.run_fault.RunFault.TheVariants as fault
 
 -- a refusal of what the text reads as is told of the text
-pub tells_of_text : (path text : List ℕ) (d : Data) (r : RunFault) → read_json text ≡ Some d → IsRefused path d r → Tells path text (Err r)
-tells_of_text path text d (fault.Arguments e) reads is = absurd is
-tells_of_text path text d fault.NotText reads is = absurd is
-tells_of_text path text d (fault.Number o) reads is = absurd is
-tells_of_text path text d (fault.TypesFile named e) reads is = absurd is
-tells_of_text path text d (fault.TypesText named e) reads is = absurd is
-tells_of_text path text d (fault.Types refused) reads is = (d, reads, is)
-tells_of_text path text d (fault.Output e) reads is = absurd is
-tells_of_text path text d (fault.Port p e) reads is = absurd is
-tells_of_text path text d fault.Memory reads is = tt
-tells_of_text path text d fault.Store reads is = absurd is
+pub reports_of_text : (path text : List ℕ) (d : Data) (r : RunFault) → read_json text ≡ Some d → IsRefused path d r → ReadsTypesFile path text (Err r)
+reports_of_text path text d (fault.Arguments e) reads is = absurd is
+reports_of_text path text d fault.NotText reads is = absurd is
+reports_of_text path text d (fault.Number o) reads is = absurd is
+reports_of_text path text d (fault.TypesFile named e) reads is = absurd is
+reports_of_text path text d (fault.TypesText named e) reads is = absurd is
+reports_of_text path text d (fault.Types refused) reads is = (d, reads, is)
+reports_of_text path text d (fault.Output e) reads is = absurd is
+reports_of_text path text d (fault.Port p e) reads is = absurd is
+reports_of_text path text d fault.Memory reads is = tt
+reports_of_text path text d fault.Store reads is = absurd is

@@ -2,4 +2,4 @@ pub mod Commands
 pub mod Numbers
 pub mod ReplayProgram
 pub mod Resources
-pub mod Seen
+pub mod Views

@@ -3,13 +3,13 @@ use Rattle.std.specs.Prelude.{◌≡◌, ◌⊎◌, ℕ, List, [], ◌∷◌, le
 use Rattle.clap.specs.Values.{kind_of}
 use Rattle.clap.specs.declared.error.kind.ErrorKind.{ErrorKind}
 use Rattle.clap.specs.declared.error.kind.ErrorKind.TheVariants as kind
-use Rattle.api_types.specs.FaultPlaces.{ArePlacesOf, EndsReading, IsPlaceOf, TellsFile}
+use Rattle.api_types.specs.FaultPlaces.{ArePlacesOf, EndsReading, IsPlaceOf, ReportsFile}
 use Rattle.api_types.specs.Refusals.{Refusal, unknown_keyword, unknown_type, misfit, too_deep, same_names, not_the_form}
-use Rattle.api_types.specs.Seen.{Fails, Tells as TellsRefusal}
+use Rattle.api_types.specs.Views.{FailsWith, ReportsFault as ReportsRefusal}
 use Rattle.api_types.specs.Served.{types_view}
 use Rattle.api_types.specs.TypesFile.{declared_types, listed}
 use Rattle.api_types.specs.declared.fault.TypesFault.{TypesFault}
-use Rattle.api_types.specs.declared.fault_place.PlacedFault.{PlacedFault}
+use Rattle.api_types.specs.declared.fault_place.LocatedFault.{LocatedFault}
 use Rattle.api_types.specs.declared.types.Types.{Types}
 use Rattle.serde_json.specs.Data.{Data}
 use Rattle.serde_json.specs.Read.{read as read_json}
@@ -50,36 +50,36 @@ types_refusal_number not_the_form = 6
 
 -- the number is that of the fault
 abbrev pub IsNumberOf : TypesFault → ℕ → Type 0
-IsNumberOf f n = (e : Refusal) × TellsRefusal f e × (n ≡ types_refusal_number e)
+IsNumberOf f n = (e : Refusal) × ReportsRefusal f e × (n ≡ types_refusal_number e)
 
 -- the first refusal of a types file, by its number, and a place in it where reading ends by it, if one is named
 abbrev pub IsRefusal : Data → TypesRefusal → Type 0
 IsRefusal file refusal =
-    ((e : Refusal) × (declared_types file ≡ Err e) × (refusal.number ≡ types_refusal_number e)) × Fails refusal.fault (declared_types file) × IfSome refusal.place (λ place. IsPlaceOf EndsReading refusal.fault place file)
+    ((e : Refusal) × (declared_types file ≡ Err e) × (refusal.number ≡ types_refusal_number e)) × FailsWith refusal.fault (declared_types file) × IfSome refusal.place (λ place. IsPlaceOf EndsReading refusal.fault place file)
 
 -- the refusal of a fault that is told with its place
-abbrev pub IsNumbered : PlacedFault → TypesRefusal → Type 0
-IsNumbered told refusal = (refusal.fault ≡ told.fault) × (refusal.place ≡ Some told.place) × IsNumberOf refusal.fault refusal.number
+abbrev pub IsNumbered : LocatedFault → TypesRefusal → Type 0
+IsNumbered reported refusal = (refusal.fault ≡ reported.fault) × (refusal.place ≡ Some reported.place) × IsNumberOf refusal.fault refusal.number
 
 -- the refusals of all, in their order
-abbrev pub AreNumbered : List PlacedFault → List TypesRefusal → Type 0
+abbrev pub AreNumbered : List LocatedFault → List TypesRefusal → Type 0
 AreNumbered [] [] = ⊤
 AreNumbered [] (refusal ∷ refusals) = ⊥
-AreNumbered (told ∷ all) [] = ⊥
-AreNumbered (told ∷ all) (refusal ∷ refusals) = IsNumbered told refusal × AreNumbered all refusals
+AreNumbered (reported ∷ all) [] = ⊥
+AreNumbered (reported ∷ all) (refusal ∷ refusals) = IsNumbered reported refusal × AreNumbered all refusals
 
 -- one refusal, without a place
 abbrev pub IsWhole : TypesFault → List TypesRefusal → Type 0
 IsWhole f refusals = (refusal : TypesRefusal) × (refusals ≡ refusal ∷ []) × (refusal.fault ≡ f) × (refusal.place ≡ None) × IsNumberOf refusal.fault refusal.number
 
 -- what is told of its types, in their order and with places where the rules are broken; where nothing is, there is no other
-abbrev pub AreTold : Data → List TypesRefusal → Type 0
-AreTold file refusals = (all : List PlacedFault) × TellsFile (listed file) all × ArePlacesOf file all × (AreNumbered all refusals ⊎ ((all ≡ []) × (length refusals ≡ 1)))
+abbrev pub AreReported : Data → List TypesRefusal → Type 0
+AreReported file refusals = (all : List LocatedFault) × ReportsFile (listed file) all × ArePlacesOf file all × (AreNumbered all refusals ⊎ ((all ≡ []) × (length refusals ≡ 1)))
 
 -- the refusals of a types file; the first is the one by which its reading ends
 abbrev pub AreRefusals : Data → List TypesRefusal → Type 0
 AreRefusals file [] = ⊥
-AreRefusals file (first ∷ others) = IsRefusal file first × AreTold file (first ∷ others)
+AreRefusals file (first ∷ others) = IsRefusal file first × AreReported file (first ∷ others)
 
 -- the fault tells the file's path and its refusals
 abbrev pub IsRefused : List ℕ → Data → RunFault → Type 0
@@ -89,9 +89,9 @@ IsRefused path file _ = ⊥
 
 -- what is told of the text of a types file: the types that it declares; or, with the file's path, that it is no JSON, or
 -- its refusals
-abbrev pub Tells : List ℕ → List ℕ → Result Types RunFault → Type 0
-Tells path text (Ok types) = (d : Data) × (read_json text ≡ Some d) × (declared_types d ≡ Ok (types_view types))
-Tells path text (Err (fault.TypesText named e)) = (string_bytes named ≡ path) × (read_json text ≡ None)
-Tells path text (Err (fault.Types refused)) = (d : Data) × (read_json text ≡ Some d) × IsRefused path d (fault.Types refused)
-Tells path text (Err fault.Memory) = ⊤
-Tells path text (Err _) = ⊥
+abbrev pub ReadsTypesFile : List ℕ → List ℕ → Result Types RunFault → Type 0
+ReadsTypesFile path text (Ok types) = (d : Data) × (read_json text ≡ Some d) × (declared_types d ≡ Ok (types_view types))
+ReadsTypesFile path text (Err (fault.TypesText named e)) = (string_bytes named ≡ path) × (read_json text ≡ None)
+ReadsTypesFile path text (Err (fault.Types refused)) = (d : Data) × (read_json text ≡ Some d) × IsRefused path d (fault.Types refused)
+ReadsTypesFile path text (Err fault.Memory) = ⊤
+ReadsTypesFile path text (Err _) = ⊥

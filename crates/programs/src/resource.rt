@@ -2,7 +2,7 @@
 
 ghost use Rattle.std.specs.Prelude.{◌≡◌, option_map};
 ghost use Rattle.programs.specs.Resources.{cut_at_slash, resource_in};
-ghost use Rattle.programs.specs.Seen.{resource_of};
+ghost use Rattle.programs.specs.Views.{resource_of};
 
 /// A type by its names, as they stand in the path of a request.
 #[derive(Clone, Copy, Debug)]

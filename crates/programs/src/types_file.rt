@@ -1,14 +1,14 @@
 //! Types files: the types that a file declares, or the fault that names the file. Its text is read in the crate `api_types`.
 ghost use Rattle.std.specs.Prelude.{◌≡◌, ℕ, List, IfOk, IfSome, None, Err};
-ghost use Rattle.api_types.specs.Seen.{Fails};
+ghost use Rattle.api_types.specs.Views.{FailsWith};
 ghost use Rattle.api_types.specs.TypesFile.{declared_types};
 ghost use Rattle.serde_json.specs.Read.{read as read_json};
 ghost use Rattle.serde_json.specs.View.{view};
-ghost use Rattle.programs.specs.ReplayProgram.{AreNumbered, AreRefusals, IsNumberOf, IsNumbered, IsRefused, IsWhole, Tells};
+ghost use Rattle.programs.specs.ReplayProgram.{AreNumbered, AreRefusals, IsNumberOf, IsNumbered, IsRefused, IsWhole, ReadsTypesFile};
 
 use crate::run_fault::{RunFault, unread_path};
 use crate::types_refusal::{RefusedTypes, TypesRefusal};
-use api_types::{FaultPlace, PlacedFault, Types, TypesFault, all_places};
+use api_types::{FaultPlace, LocatedFault, Types, TypesFault, all_places};
 use serde_json::Value;
 use std::alloc::{AllocError, Global};
 use std::fs;
@@ -41,22 +41,22 @@ fn numbered(fault: TypesFault, place: Option<FaultPlace>) -> Option<TypesRefusal
     })
 }
 
-fn placed(told: PlacedFault) -> Option<TypesRefusal>
-    ensures { IfSome result (IsNumbered told) }
+fn located(reported: LocatedFault) -> Option<TypesRefusal>
+    ensures { IfSome result (IsNumbered reported) }
 {
-    let PlacedFault { fault, place } = told;
+    let LocatedFault { fault, place } = reported;
     numbered(fault, Some(place))
 }
 
 fn all_numbered(
     alloc: Global,
-    all: Vec<PlacedFault>,
+    all: Vec<LocatedFault>,
 ) -> Result<Option<Vec<TypesRefusal>>, AllocError>
     ensures { IfOk result (λ o. IfSome o (λ v. AreNumbered all.items v.items)) }
 {
     let mut refusals = Vec::new(alloc);
-    for told in all {
-        let Some(refusal) = placed(told) else {
+    for reported in all {
+        let Some(refusal) = located(reported) else {
             return Ok(None);
         };
         refusals.push(refusal)?;
@@ -82,7 +82,7 @@ fn refusals_of(
     file: &Value,
     fault: TypesFault,
 ) -> Result<Option<Vec<TypesRefusal>>, AllocError>
-    ensures { Fails fault (declared_types (view file.now)) → IfOk result (λ o. IfSome o (λ v. AreRefusals (view file.now) v.items)) }
+    ensures { FailsWith fault (declared_types (view file.now)) → IfOk result (λ o. IfSome o (λ v. AreRefusals (view file.now) v.items)) }
 {
     let all = all_places(alloc, file)?;
     if all.is_empty() {
@@ -92,7 +92,7 @@ fn refusals_of(
 }
 
 fn refused(alloc: Global, path: &str, file: &Value, fault: TypesFault) -> RunFault
-    ensures { Fails fault (declared_types (view file.now)) → IsRefused path.now (view file.now) result }
+    ensures { FailsWith fault (declared_types (view file.now)) → IsRefused path.now (view file.now) result }
 {
     let Ok(Some(refusals)) = refusals_of(alloc, file, fault) else {
         return RunFault::Memory;
@@ -104,7 +104,7 @@ fn refused(alloc: Global, path: &str, file: &Value, fault: TypesFault) -> RunFau
 }
 
 fn not_json(alloc: Global, path: &str, error: serde_json::Error) -> RunFault
-    ensures { (text : List ℕ) → read_json text ≡ None → Tells path.now text (Err result) }
+    ensures { (text : List ℕ) → read_json text ≡ None → ReadsTypesFile path.now text (Err result) }
 {
     match String::from_str(alloc, path) {
         Ok(path) => RunFault::TypesText(path, error),
@@ -114,7 +114,7 @@ fn not_json(alloc: Global, path: &str, error: serde_json::Error) -> RunFault
 
 /// The types that the text of a types file declares; a fault names the file by its path.
 pub fn types_in(alloc: Global, path: &str, text: &str) -> Result<Types, RunFault>
-    ensures { Tells path.now text.now result }
+    ensures { ReadsTypesFile path.now text.now result }
 {
     let value = match Value::from_str(alloc, text) {
         Ok(value) => value,

@@ -8,12 +8,12 @@ use Rattle.std.specs.declared.cmp.Ordering.{Ordering}
 use Rattle.std.specs.declared.cmp.Ordering.TheVariants.{Less, Equal, Greater}
 use Rattle.serde_json.specs.declared.value.Value.{Value}
 use Rattle.requests.specs.Asks.{CallDecision}
-use Rattle.httpedge.specs.Connections.{Connection, Connections, IsUntaken, gone, has_ended, has_gone, with_standing, written_on}
-use Rattle.httpedge.specs.HubSeen.{event_of}
+use Rattle.httpedge.specs.Connections.{Connection, Connections, IsUntaken, gone, has_ended, has_gone, with_phase, written_on}
+use Rattle.httpedge.specs.HubViews.{event_of}
 use Rattle.httpedge.specs.declared.event.Event as events
 use Rattle.httpedge.specs.declared.event.Event.TheVariants as event
-use Rattle.httpedge.specs.Runs.{Follows, Happening, LeavesOut, Steps, happens, peer_goes}
-use Rattle.httpedge.specs.Steps.{Event, Refusal, State, by_connection, carried_out, goes, refusal, unknown_id, unless_refused, with_connection}
+use Rattle.httpedge.specs.Runs.{Follows, Action, KeepsOutput, Steps, happens, peer_goes}
+use Rattle.httpedge.specs.Steps.{Event, Refusal, State, by_connection, applied_event, goes, refusal, unknown_id, unless_refused, with_connection}
 use Rattle.recorder.specs.Recorded.{HasGone, IsKept, kept_after}
 
 -- ---- ids
@@ -38,10 +38,10 @@ apart id q e = λ is. let bad : true ≡ false = sym (tied id) ∙ ap (eq_by_cmp
 -- ---- the hub's laws
 
 abbrev pub OneStays : Type 0
-OneStays = (s t : State) (h : Happening) (id : ℕ) → LeavesOut h id → IsUntaken (fin.get s.connections id) → Follows s h t → IsUntaken (fin.get t.connections id)
+OneStays = (s t : State) (h : Action) (id : ℕ) → KeepsOutput h id → IsUntaken (fin.get s.connections id) → Follows s h t → IsUntaken (fin.get t.connections id)
 
 abbrev pub GoneStays : Type 0
-GoneStays = (s t : State) (h : Happening) (id : ℕ) (c : Connection) → Follows s h t → fin.get s.connections id ≡ Some c → has_gone c.standing ≡ true
+GoneStays = (s t : State) (h : Action) (id : ℕ) (c : Connection) → Follows s h t → fin.get s.connections id ≡ Some c → has_gone c.phase ≡ true
     → fin.get t.connections id ≡ Some c
 
 -- ---- an event
@@ -80,9 +80,9 @@ put_here all id c = fin.get-insert nat_cmp_total all id c id ∙ ap (λ (b : Boo
 
 went_by : (s : State) (id : ℕ) (asked : CallDecision) (o : Option Connection) → fin.get s.connections id ≡ o → is_some o ≡ true
     → HasGone (unwrap_or (option_map (λ (c : Connection). c.written) o) [])
-    (fin.get (by_connection s o (λ c. with_connection s id (with_standing c (gone (has_ended c.standing))))).connections id)
+    (fin.get (by_connection s o (λ c. with_connection s id (with_phase c (gone (has_ended c.phase))))).connections id)
 went_by s id asked None at known = absurd cc
-went_by s id asked (Some c) at known = subst (HasGone c.written) (sym (put_here s.connections id (with_standing c (gone (has_ended c.standing))))) (refl, refl)
+went_by s id asked (Some c) at known = subst (HasGone c.written) (sym (put_here s.connections id (with_phase c (gone (has_ended c.phase))))) (refl, refl)
 
 known_by : (b : Bool) (o : Option Refusal) → is_none (cond b o (Some unknown_id)) ≡ true → b ≡ true
 known_by true o is = refl
@@ -93,7 +93,7 @@ went s t id taken (asked, asks, is) =
     subst (λ (x : State). HasGone (written_on s.connections id) (fin.get x.connections id)) (sym (is ∙ unrefused (refusal s (goes id)) taken))
     (went_by s id asked (fin.get s.connections id) refl (known_by (is_some (fin.get s.connections id)) None taken))
   where
-    unrefused : (o : Option Refusal) → is_none o ≡ true → unless_refused o s (carried_out s (goes id) asked) ≡ carried_out s (goes id) asked
+    unrefused : (o : Option Refusal) → is_none o ≡ true → unless_refused o s (applied_event s (goes id) asked) ≡ applied_event s (goes id) asked
     unrefused None e = refl
     unrefused (Some why) e = absurd cc
 
@@ -116,7 +116,7 @@ kept_goes one law s t id written is taken steps q (Some bytes) kept = gone_stays
 pub refused_same : (s t : State) (e : Event) → is_none (refusal s e) ≡ false → Steps s e t → t ≡ s
 refused_same s t e refused (asked, asks, is) = is ∙ unchanged (refusal s e) refused
   where
-    unchanged : (o : Option Refusal) → is_none o ≡ false → unless_refused o s (carried_out s e asked) ≡ s
+    unchanged : (o : Option Refusal) → is_none o ≡ false → unless_refused o s (applied_event s e asked) ≡ s
     unchanged None r = absurd cc
     unchanged (Some why) r = refl
 

@@ -5,7 +5,7 @@ use Rattle.std.specs.BTreeMap.{get}
 use Rattle.std.specs.FinMap as fin
 use Rattle.std.specs.Ordering.{nat_cmp}
 use Rattle.httpedge.specs.Connections.{Connection, IsUntaken, has_gone}
-use Rattle.httpedge.specs.HubSeen.{IsIn, outcome_of, refusal_in}
+use Rattle.httpedge.specs.HubViews.{HubRepresents, outcome_of, refusal_in}
 use Rattle.httpedge.specs.Steps.{Event, Refusal, State, refusal}
 use Rattle.httpedge.specs.declared.fault.HubFault.{HubFault}
 use Rattle.recorder.specs.declared.recorder.Recorder.{Recorder}
@@ -13,7 +13,7 @@ use Rattle.recorder.specs.declared.recorder.Recorder.{Recorder}
 -- the peer has gone, and these bytes were written
 abbrev pub HasGone : List ℕ → Option Connection → Type 0
 HasGone bytes None = ⊥
-HasGone bytes (Some c) = (has_gone c.standing ≡ true) × (c.written ≡ bytes)
+HasGone bytes (Some c) = (has_gone c.phase ≡ true) × (c.written ≡ bytes)
 
 -- what was written on a connection is kept, or else it is all out
 abbrev pub IsKept : Option (List ℕ) → Option Connection → Type 0
@@ -23,8 +23,8 @@ IsKept (Some bytes) o = HasGone bytes o
 abbrev pub kept_on : Recorder → ℕ → Option (List ℕ)
 kept_on recorder id = option_map (λ v. v.items) (get nat_cmp recorder.gone id)
 
-abbrev pub Records : Recorder → State → Type 0
-Records recorder s = IsIn recorder.hub s × ((id : ℕ) → IsKept (kept_on recorder id) (fin.get s.connections id))
+abbrev pub RecorderRepresents : Recorder → State → Type 0
+RecorderRepresents recorder s = HubRepresents recorder.hub s × ((id : ℕ) → IsKept (kept_on recorder id) (fin.get s.connections id))
 
 -- what is kept of a connection stays; of the one that goes it is what was written
 abbrev pub kept_after : Option (List ℕ) → Bool → List ℕ → Option (List ℕ)
@@ -40,5 +40,5 @@ refusal_of None = None
 refusal_of (Some f) = refusal_in (outcome_of {A = ⊤} (Err f))
 
 -- it tells whether the event is refused, and why
-abbrev pub TellsRefusal : State → Event → Option HubFault → Type 0
-TellsRefusal s e r = (is_none r ≡ is_none (refusal s e)) × (refusal_of r ≡ refusal s e)
+abbrev pub ReportsRefusal : State → Event → Option HubFault → Type 0
+ReportsRefusal s e r = (is_none r ≡ is_none (refusal s e)) × (refusal_of r ≡ refusal s e)

@@ -4,12 +4,12 @@ ghost use Rattle.std.specs.BTreeMap.{get};
 ghost use Rattle.std.specs.Ordering.{nat_cmp, eq_by_cmp};
 ghost use Rattle.api_types.specs.TypesFile.{ServedShape};
 ghost use Rattle.history.specs.History.{History};
-ghost use Rattle.verbs.specs.Seen.{Stands};
+ghost use Rattle.verbs.specs.Views.{ApiRepresents};
 ghost use Rattle.httpedge.specs.Connections.{ended_on, next_id, written_on};
-ghost use Rattle.httpedge.specs.HubSeen.{IsIn, event_of};
+ghost use Rattle.httpedge.specs.HubViews.{HubRepresents, event_of};
 ghost use Rattle.httpedge.specs.Runs.{Steps, peer_goes};
 ghost use Rattle.httpedge.specs.Steps.{State, goes, start};
-ghost use Rattle.recorder.specs.Recorded.{Records, TellsRefusal, kept_after};
+ghost use Rattle.recorder.specs.Recorded.{RecorderRepresents, ReportsRefusal, kept_after};
 
 use crate::fault::RecorderFault;
 use httpedge::{Event, Hub, HubFault};
@@ -19,7 +19,7 @@ use verbs::Api;
 
 /// Hands an event to the hub: why it was refused, if it was.
 fn refused_by(hub: &mut Hub, event: &Event) -> Result<Option<HubFault>, RecorderFault>
-    ensures { (s : State) → IsIn hub.old s → IfOk result (λ r. TellsRefusal s (event_of event.now) r × ((t : State) × Steps s (event_of event.now) t × IsIn hub.new t)) }
+    ensures { (s : State) → HubRepresents hub.old s → IfOk result (λ r. ReportsRefusal s (event_of event.now) r × ((t : State) × Steps s (event_of event.now) t × HubRepresents hub.new t)) }
 {
     match hub.on(event) {
         Ok(()) => Ok(None),
@@ -57,7 +57,7 @@ pub struct Recorder {
 impl Recorder {
     /// A hub without connections.
     pub fn new(alloc: Global, api: Api) -> Recorder
-        ensures { (types : List ServedShape) (m : History) → Stands api types m → Records result (start types m) }
+        ensures { (types : List ServedShape) (m : History) → ApiRepresents api types m → RecorderRepresents result (start types m) }
     {
         httpedge::all_is_out();
         Recorder {
@@ -69,7 +69,7 @@ impl Recorder {
 
     /// Hands the hub an event: why it was refused, if it was. A refused one changes nothing.
     pub fn on(&mut self, event: &Event) -> Result<Option<HubFault>, RecorderFault>
-        ensures { (s : State) → Records self.old s → IfOk result (λ r. TellsRefusal s (event_of event.now) r × ((t : State) × Steps s (event_of event.now) t × Records self.new t)) }
+        ensures { (s : State) → RecorderRepresents self.old s → IfOk result (λ r. ReportsRefusal s (event_of event.now) r × ((t : State) × Steps s (event_of event.now) t × RecorderRepresents self.new t)) }
     {
         match event {
             Event::Gone(id) => self.go(*id),
@@ -84,7 +84,7 @@ impl Recorder {
 
     /// Hands the hub an event, other than that a peer goes.
     fn hand(&mut self, event: &Event) -> Result<Option<HubFault>, RecorderFault>
-        ensures { (s : State) → Records self.old s → peer_goes (event_of event.now) ≡ false → IfOk result (λ r. TellsRefusal s (event_of event.now) r × ((t : State) × Steps s (event_of event.now) t × Records self.new t)) }
+        ensures { (s : State) → RecorderRepresents self.old s → peer_goes (event_of event.now) ≡ false → IfOk result (λ r. ReportsRefusal s (event_of event.now) r × ((t : State) × Steps s (event_of event.now) t × RecorderRepresents self.new t)) }
     {
         httpedge::all_is_out();
         httpedge::gone_stays();
@@ -93,7 +93,7 @@ impl Recorder {
 
     /// The peer of a connection goes.
     fn go(&mut self, id: u64) -> Result<Option<HubFault>, RecorderFault>
-        ensures { (s : State) → Records self.old s → IfOk result (λ r. TellsRefusal s (goes id) r × ((t : State) × Steps s (goes id) t × Records self.new t)) }
+        ensures { (s : State) → RecorderRepresents self.old s → IfOk result (λ r. ReportsRefusal s (goes id) r × ((t : State) × Steps s (goes id) t × RecorderRepresents self.new t)) }
     {
         httpedge::all_is_out();
         httpedge::gone_stays();
@@ -109,7 +109,7 @@ impl Recorder {
 
     /// All that was written on a connection; nothing for an unknown id.
     pub fn written(&self, id: u64) -> &[u8]
-        ensures { (s : State) → Records self.now s → result.now ≡ written_on s.connections id }
+        ensures { (s : State) → RecorderRepresents self.now s → result.now ≡ written_on s.connections id }
     {
         httpedge::all_is_out();
         match self.gone.get(&id) {
@@ -120,14 +120,14 @@ impl Recorder {
 
     /// Whether a connection has ended.
     pub fn ended(&self, id: u64) -> bool
-        ensures { (s : State) → Records self.now s → result ≡ ended_on s.connections id }
+        ensures { (s : State) → RecorderRepresents self.now s → result ≡ ended_on s.connections id }
     {
         self.hub.ended(id)
     }
 
     /// The id after those of all connections that were ever opened: 1 at the start, none where no id is left.
     pub fn next_id(&self) -> Option<u64>
-        ensures { (s : State) → Records self.now s → result ≡ next_id s.connections }
+        ensures { (s : State) → RecorderRepresents self.now s → result ≡ next_id s.connections }
     {
         self.hub.next_id()
     }

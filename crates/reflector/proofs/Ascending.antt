@@ -10,8 +10,8 @@ use Rattle.reflector.specs.Client.{place_in, by_place}
 use Rattle.reflector.proofs.Between.{both, fst, snd, is_less, below_lower}
 use Rattle.reflector.proofs.Keyed.{Entries}
 
-abbrev pub placed : Shared → Place × Stored
-placed o = (place_in (shared_of o), shared_of o)
+abbrev pub under_key : Shared → Place × Stored
+under_key o = (place_in (shared_of o), shared_of o)
 
 abbrev pub rows : List Shared → Entries
 rows os = by_place (map shared_of os)
@@ -37,7 +37,7 @@ minus_one k = omega arith
 plus_minus : (k : ℕ) → (suc k + 1) - 1 ≡ suc k
 plus_minus k = omega arith
 
-pub next_pair : (whole : Bool) (os : List Shared) (i : ℕ) (a b : Shared) (t : Bool) → i < length os → a ≡ get_or os (i - 1) a → b ≡ get_or os i b → t ≡ is_lt (place_cmp (placed a).0 (placed b).0) → t ≡ true
+pub next_pair : (whole : Bool) (os : List Shared) (i : ℕ) (a b : Shared) (t : Bool) → i < length os → a ≡ get_or os (i - 1) a → b ≡ get_or os i b → t ≡ is_lt (place_cmp (under_key a).0 (under_key b).0) → t ≡ true
     → whole ≡ is_sorted place_cmp (rows (drop (i - 1) os)) → whole ≡ is_sorted place_cmp (rows (drop ((i + 1) - 1) os))
 next_pair whole os zero a b t lt is_a is_b is holds h = h
 next_pair whole os (suc k) a b t lt is_a is_b is holds h =
@@ -46,8 +46,8 @@ next_pair whole os (suc k) a b t lt is_a is_b is holds h =
     let second : drop (suc k) os ≡ b ∷ drop (suc (suc k)) os = drop-cons os (suc k) b lt ∙ ap (λ x. x ∷ drop (suc (suc k)) os) (sym is_b) in
     h ∙ ap (λ n. is_sorted place_cmp (rows (drop n os))) (minus_one k)
     ∙ ap (λ xs. is_sorted place_cmp (rows xs)) (first ∙ ap (λ xs. a ∷ xs) second)
-    ∙ sym (below_next (placed a) (placed b) (rows (drop (suc (suc k)) os)) t is)
-    ∙ ap (λ u. u && is_sorted place_cmp (placed b ∷ rows (drop (suc (suc k)) os))) holds
+    ∙ sym (below_next (under_key a) (under_key b) (rows (drop (suc (suc k)) os)) t is)
+    ∙ ap (λ u. u && is_sorted place_cmp (under_key b ∷ rows (drop (suc (suc k)) os))) holds
     ∙ ap (λ xs. is_sorted place_cmp (rows xs)) (sym second)
     ∙ ap (λ n. is_sorted place_cmp (rows (drop n os))) (sym (plus_minus k))
 
@@ -76,15 +76,15 @@ joined x (z ∷ zs) y ys t is h =
 some_is : {A : Type 0} (x y : A) → Some x ≡ Some y → x ≡ y
 some_is x y e = cc
 
-last_is : (a : Shared) (os : List Shared) (l : Shared) → Some l ≡ slice_get (a ∷ os) (length os) → last_of (placed a) (rows os) ≡ placed l
-last_is a [] l h = ap placed (sym (some_is l a h))
+last_is : (a : Shared) (os : List Shared) (l : Shared) → Some l ≡ slice_get (a ∷ os) (length os) → last_of (under_key a) (rows os) ≡ under_key l
+last_is a [] l h = ap under_key (sym (some_is l a h))
 last_is a (b ∷ os) l h = last_is b os l h
 
-pub joined_rows : (os fs : List Shared) (l f : Shared) (t : Bool) → Some l ≡ slice_get os (length os - 1) → Some f ≡ slice_get fs 0 → t ≡ is_lt (place_cmp (placed l).0 (placed f).0) → is_sorted place_cmp (rows os) ≡ true
+pub joined_rows : (os fs : List Shared) (l f : Shared) (t : Bool) → Some l ≡ slice_get os (length os - 1) → Some f ≡ slice_get fs 0 → t ≡ is_lt (place_cmp (under_key l).0 (under_key f).0) → is_sorted place_cmp (rows os) ≡ true
     → (t && is_sorted place_cmp (rows fs)) ≡ is_sorted place_cmp (by_place (map shared_of os ++ map shared_of fs))
 joined_rows [] fs l f t is_l is_f is h = absurd cc
 joined_rows (a ∷ os) [] l f t is_l is_f is h = absurd cc
 joined_rows (a ∷ os) (b ∷ fs) l f t is_l is_f is h =
-    let last : last_of (placed a) (rows os) ≡ placed l = last_is a os l (is_l ∙ ap (slice_get (a ∷ os)) (minus_one (length os))) in
-    joined (placed a) (rows os) (placed b) (rows fs) t (is ∙ ap₂ (λ x y. is_lt (place_cmp x.0 y.0)) (sym last) (ap placed (some_is f b is_f))) (subst T (sym h) tt)
+    let last : last_of (under_key a) (rows os) ≡ under_key l = last_is a os l (is_l ∙ ap (slice_get (a ∷ os)) (minus_one (length os))) in
+    joined (under_key a) (rows os) (under_key b) (rows fs) t (is ∙ ap₂ (λ x y. is_lt (place_cmp x.0 y.0)) (sym last) (ap under_key (some_is f b is_f))) (subst T (sym h) tt)
     ∙ ap (is_sorted place_cmp) (sym (map-append (λ o. (place_in o, o)) (map shared_of (a ∷ os)) (map shared_of (b ∷ fs))))

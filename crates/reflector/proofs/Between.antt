@@ -7,7 +7,7 @@ use Rattle.std.specs.FinMap as fin
 use Rattle.std.specs.FinMap.Entries.{by_order, find, below_all, is_sorted, put, same_entries}
 use Rattle.indexer.specs.Objects.{Place, place_cmp, Stored}
 use Rattle.reflector.specs.Client.{Objects, Notice, added, deleted, notice_of, differences}
-use Rattle.reflector.specs.Between.{between, first_told, new_left, old_left}
+use Rattle.reflector.specs.BetweenViews.{between, first_emitted, new_left, old_left}
 use Rattle.reflector.proofs.Places.{place_total, same_place}
 use Rattle.reflector.proofs.Keyed.{Entries, place_antisymmetric}
 
@@ -138,10 +138,10 @@ module _ (p : Place) (u v : Option Stored) (xs xs' ys ys' : Entries) (low_x : T 
   places_all : map (λ e. e.0) all ≡ p ∷ map (λ e. e.0) left
   places_all = sym (keys_marked all) ∙ ap (map (λ e. e.0)) marks_all ∙ ap (λ ps. p ∷ ps) (keys_marked left)
 
-  abbrev told_at : Place → List Notice
-  told_at q = notice_of (find place_cmp q xs) (find place_cmp q ys)
+  abbrev emitted_at : Place → List Notice
+  emitted_at q = notice_of (find place_cmp q xs) (find place_cmp q ys)
 
-  others : (es : Entries) → T (below_all place_cmp p es) → flat_map told_at (map (λ e. e.0) es) ≡ flat_map (λ q. notice_of (find place_cmp q xs') (find place_cmp q ys')) (map (λ e. e.0) es)
+  others : (es : Entries) → T (below_all place_cmp p es) → flat_map emitted_at (map (λ e. e.0) es) ≡ flat_map (λ q. notice_of (find place_cmp q xs') (find place_cmp q ys')) (map (λ e. e.0) es)
   others [] h = refl
   others (e ∷ es) h =
       let apart : eq_by_cmp place_cmp e.0 p ≡ false = not_itself p e.0 (is_less _ (fst _ _ h)) (eq_by_cmp place_cmp e.0 p) refl in
@@ -151,7 +151,7 @@ module _ (p : Place) (u v : Option Stored) (xs xs' ys ys' : Entries) (low_x : T 
 
   pub first_place : between xs ys ≡ notice_of u v ++ between xs' ys'
   first_place =
-      ap (flat_map told_at) places_all
+      ap (flat_map emitted_at) places_all
       ∙ ap₂ (λ a b. a ++ b)
       (ap₂ notice_of (in_x p ∙ ap (λ t. cond t u (find place_cmp p xs')) (itself p)) (in_y p ∙ ap (λ t. cond t v (find place_cmp p ys')) (itself p)))
       (others left low)
@@ -188,8 +188,8 @@ both_first x y xs ys same low_x low_y =
     first_place x.0 (Some x.1) (Some y.1) (x ∷ xs) xs (y ∷ ys) ys low_x (subst (λ p. T (below_all place_cmp p ys)) (sym same) low_y) (λ q. refl)
     (λ q. ap (λ p. cond (eq_by_cmp place_cmp q p) (Some y.1) (find place_cmp q ys)) (sym same)) refl
 
-pub nothing_told : between [] [] ≡ []
-nothing_told = ap (λ (es : Entries). flat_map (λ (p : Place). notice_of None None) (map (λ e. e.0) es)) nothing
+pub nothing_emitted : between [] [] ≡ []
+nothing_emitted = ap (λ (es : Entries). flat_map (λ (p : Place). notice_of None None) (map (λ e. e.0) es)) nothing
 
 pub of_entries : (before after : Objects) → between (fin.entries before) (fin.entries after) ≡ differences before after
 of_entries before after = go (fin.keys (fin.from_entries {R = place_cmp} (fin.entries before ++ fin.entries after)))
@@ -201,7 +201,7 @@ of_entries before after = go (fin.keys (fin.from_entries {R = place_cmp} (fin.en
 
 -- what is told of the first places, and what is left then
 pub step : (o : Ordering) (x y : Place × Stored) (xs ys : Entries) → o ≡ place_cmp x.0 y.0 → T (is_sorted place_cmp (x ∷ xs)) → T (is_sorted place_cmp (y ∷ ys))
-    → first_told o (x ∷ xs) (y ∷ ys) ++ between (old_left o (x ∷ xs)) (new_left o (y ∷ ys)) ≡ between (x ∷ xs) (y ∷ ys)
+    → first_emitted o (x ∷ xs) (y ∷ ys) ++ between (old_left o (x ∷ xs)) (new_left o (y ∷ ys)) ≡ between (x ∷ xs) (y ∷ ys)
 step Less x y xs ys is h k =
     sym (old_first x xs (y ∷ ys) (fst _ _ h) (both _ _ (subst (λ o. T (is_lt o)) is tt) (below_lower x.0 y.0 ys (sym is) (fst _ _ k))))
 step Equal x y xs ys is h k = sym (both_first x y xs ys (place_antisymmetric x.0 y.0 (sym is)) (fst _ _ h) (fst _ _ k))

@@ -6,7 +6,7 @@ use Rattle.std.specs.FinMap as fin
 use Rattle.std.specs.FinMap.Entries as entries
 use Rattle.indexer.specs.Objects.{Place, place_cmp, Stored}
 use Rattle.reflector.specs.Client.{Objects}
-use Rattle.reflector.specs.Mirrors.{Keys, with_keys, keyed}
+use Rattle.reflector.specs.MirrorViews.{Keys, with_keys, keyed}
 use Rattle.reflector.proofs.Places.{place_total, same_place}
 
 pub place_antisymmetric : fin.IsAntisymmetric place_cmp

@@ -15,7 +15,7 @@ pub mod Between
 pub mod Turns
 pub mod Ascending
 pub mod Relisted
-pub mod HeardItems
+pub mod ReceivedItems
 pub mod Informing
 pub mod Eventful
-pub mod Troubles
+pub mod RelistReasons

@@ -11,15 +11,15 @@ use Rattle.decoder.specs.OwnTexts.{IsItsText, AreTheirTexts}
 use Rattle.decoder.specs.Wanted.{Wanted}
 use Rattle.decoder.proofs.OwnTexts.{same_text}
 use Rattle.reflector.specs.Client.{Objects, place_in, by_place, Notice, updated, notice_of, differences}
-use Rattle.reflector.specs.Replays.{with_notice, replayed, AreAlike, ArePlaced, AreOld, AreRead}
+use Rattle.reflector.specs.ReplayLaws.{with_notice, replayed, AreAlike, AreUnderKey, OldSidesMatch, AreRead}
 use Rattle.reflector.proofs.Between.{fst, snd, itself, find_low}
 use Rattle.reflector.proofs.Keyed.{place_antisymmetric}
 use Rattle.reflector.proofs.Places.{place_total, same_place}
-use Rattle.reflector.proofs.Replays.{replayed-append, some_is, list_placed}
+use Rattle.reflector.proofs.Replays.{replayed-append, some_is, list_under_key}
 
 -- ---- old sides
 
-pub old-append : (o : Objects) (xs ys : List Notice) → AreOld o xs → AreOld (replayed o xs) ys → AreOld o (xs ++ ys)
+pub old-append : (o : Objects) (xs ys : List Notice) → OldSidesMatch o xs → OldSidesMatch (replayed o xs) ys → OldSidesMatch o (xs ++ ys)
 old-append o [] ys first others = others
 old-append o (x ∷ xs) ys first others = (first.0, old-append (with_notice o x) xs ys first.1 others)
 
@@ -34,29 +34,29 @@ or_later : (a b : Bool) → b ≡ true → (a || b) ≡ true
 or_later true b h = refl
 or_later false b h = h
 
-module _ (before now : Objects) (placed_before : ArePlaced before) (placed_now : ArePlaced now) where
-  abbrev told_at : Place → List Notice
-  told_at p = notice_of (fin.get before p) (fin.get now p)
+module _ (before now : Objects) (under_key_before : AreUnderKey before) (under_key_now : AreUnderKey now) where
+  abbrev emitted_at : Place → List Notice
+  emitted_at p = notice_of (fin.get before p) (fin.get now p)
 
-  one_old : (o : Objects) (p : Place) → fin.get o p ≡ fin.get before p → AreOld o (told_at p)
+  one_old : (o : Objects) (p : Place) → fin.get o p ≡ fin.get before p → OldSidesMatch o (emitted_at p)
   one_old o p same = go (fin.get before p) (fin.get now p) refl refl
     where
-      both_there : (s n : Stored) → fin.get before p ≡ Some s → fin.get now p ≡ Some n → (t : Bool) → AreOld o (cond t [] (updated s n ∷ []))
+      both_there : (s n : Stored) → fin.get before p ≡ Some s → fin.get now p ≡ Some n → (t : Bool) → OldSidesMatch o (cond t [] (updated s n ∷ []))
       both_there s n a b true = tt
-      both_there s n a b false = (ap (fin.get o) (placed_now p n b) ∙ same ∙ a, tt)
+      both_there s n a b false = (ap (fin.get o) (under_key_now p n b) ∙ same ∙ a, tt)
 
-      go : (x y : Option Stored) → fin.get before p ≡ x → fin.get now p ≡ y → AreOld o (notice_of x y)
+      go : (x y : Option Stored) → fin.get before p ≡ x → fin.get now p ≡ y → OldSidesMatch o (notice_of x y)
       go None None a b = tt
-      go None (Some n) a b = (ap (fin.get o) (placed_now p n b) ∙ same ∙ a, tt)
-      go (Some s) None a b = (ap (fin.get o) (placed_before p s a) ∙ same ∙ a, tt)
+      go None (Some n) a b = (ap (fin.get o) (under_key_now p n b) ∙ same ∙ a, tt)
+      go (Some s) None a b = (ap (fin.get o) (under_key_before p s a) ∙ same ∙ a, tt)
       go (Some s) (Some n) a b = both_there s n a b (bytes_eq s.text n.text)
 
-  elsewhere : (o : Objects) (p q : Place) → eq_by_cmp place_cmp q p ≡ false → fin.get (replayed o (told_at p)) q ≡ fin.get o q
+  elsewhere : (o : Objects) (p q : Place) → eq_by_cmp place_cmp q p ≡ false → fin.get (replayed o (emitted_at p)) q ≡ fin.get o q
   elsewhere o p q other = go (fin.get before p) (fin.get now p) refl refl
     where
       put_there : (n : Stored) → fin.get now p ≡ Some n → fin.get (fin.insert o (place_in n) n) q ≡ fin.get o q
       put_there n b =
-          fin.get-insert place_total o (place_in n) n q ∙ ap (λ z. cond (eq_by_cmp place_cmp q z) (Some n) (fin.get o q)) (placed_now p n b) ∙ ap (λ (t : Bool). cond t (Some n) (fin.get o q)) other
+          fin.get-insert place_total o (place_in n) n q ∙ ap (λ z. cond (eq_by_cmp place_cmp q z) (Some n) (fin.get o q)) (under_key_now p n b) ∙ ap (λ (t : Bool). cond t (Some n) (fin.get o q)) other
 
       both_there : (s n : Stored) → fin.get now p ≡ Some n → (t : Bool) → fin.get (replayed o (cond t [] (updated s n ∷ []))) q ≡ fin.get o q
       both_there s n b true = refl
@@ -66,20 +66,20 @@ module _ (before now : Objects) (placed_before : ArePlaced before) (placed_now :
       go None None a b = refl
       go None (Some n) a b = put_there n b
       go (Some s) None a b =
-          fin.get-remove place_total o (place_in s) q ∙ ap (λ z. cond (eq_by_cmp place_cmp q z) None (fin.get o q)) (placed_before p s a) ∙ ap (λ (t : Bool). cond t None (fin.get o q)) other
+          fin.get-remove place_total o (place_in s) q ∙ ap (λ z. cond (eq_by_cmp place_cmp q z) None (fin.get o q)) (under_key_before p s a) ∙ ap (λ (t : Bool). cond t None (fin.get o q)) other
       go (Some s) (Some n) a b = both_there s n b (bytes_eq s.text n.text)
 
   -- place after place, in order, so that none is told twice
   all_old : (es : List (Place × Stored)) (o : Objects) → T (is_sorted place_cmp es) → ((q : Place) → list_any (eq_by_cmp place_cmp q) (map (λ e. e.0) es) ≡ true → fin.get o q ≡ fin.get before q)
-      → AreOld o (flat_map told_at (map (λ e. e.0) es))
+      → OldSidesMatch o (flat_map emitted_at (map (λ e. e.0) es))
   all_old [] o sorted same = tt
   all_old (e ∷ es) o sorted same =
-      old-append o (told_at e.0) (flat_map told_at (map (λ e. e.0) es))
+      old-append o (emitted_at e.0) (flat_map emitted_at (map (λ e. e.0) es))
       (one_old o e.0 (same e.0 (ap (λ (t : Bool). t || list_any (eq_by_cmp place_cmp e.0) (map (λ e. e.0) es)) (itself e.0))))
-      (all_old es (replayed o (told_at e.0)) (snd _ _ sorted) (λ q among.
+      (all_old es (replayed o (emitted_at e.0)) (snd _ _ sorted) (λ q among.
       elsewhere o e.0 q (apart e.0 q es (fst _ _ sorted) among) ∙ same q (or_later (eq_by_cmp place_cmp q e.0) (list_any (eq_by_cmp place_cmp q) (map (λ e. e.0) es)) among)))
 
-  pub differences_old : AreOld before (differences before now)
+  pub differences_old : OldSidesMatch before (differences before now)
   differences_old =
       let both : Objects = fin.from_entries {R = place_cmp} (fin.entries before ++ fin.entries now) in
       all_old (fin.entries both) before (fin.entries_sorted both) (λ q among. refl)
@@ -87,8 +87,8 @@ module _ (before now : Objects) (placed_before : ArePlaced before) (placed_now :
 -- ---- what was read
 
 module _ (wanted : Wanted) where
-  pub placed : (o : Objects) → AreRead wanted o → ArePlaced o
-  placed o read p s is = (read p s is).0
+  pub under_key : (o : Objects) → AreRead wanted o → AreUnderKey o
+  under_key o read p s is = (read p s is).0
 
   -- objects with the same texts are the same
   pub same_objects : (o q : Objects) → AreRead wanted o → AreRead wanted q → AreAlike o q → o ≡ q
@@ -162,7 +162,7 @@ module _ (wanted : Wanted) where
       go false first others same = others same
 
   pub list_read : (all : List Stored) → T (is_sorted place_cmp (by_place all)) → AreTheirTexts wanted all → AreRead wanted (fin.from_sorted {R = place_cmp} (by_place all))
-  list_read all sorted own p s is = (list_placed all sorted p s is, found_read all p s own (sym (fin.get-from_sorted place_cmp (by_place all) p sorted) ∙ is))
+  list_read all sorted own p s is = (list_under_key all sorted p s is, found_read all p s own (sym (fin.get-from_sorted place_cmp (by_place all) p sorted) ∙ is))
 
   pub texts-append : (xs ys : List Stored) → AreTheirTexts wanted xs → AreTheirTexts wanted ys → AreTheirTexts wanted (xs ++ ys)
   texts-append [] ys first others = others

@@ -10,15 +10,15 @@ use Rattle.std.proofs.lemmas.List.{map-append}
 use Rattle.std.proofs.lemmas.List.Folds.{list_any-append}
 use Rattle.std.proofs.lemmas.Slice.Eq.{bytes_eq-Decides}
 use Rattle.indexer.specs.Objects.{Place, place_cmp, Stored}
-use Rattle.wireclient.specs.Reply.{Told}
+use Rattle.wireclient.specs.Reply.{ReplyItem}
 use Rattle.decoder.specs.Wanted.{Wanted}
 use Rattle.decoder.specs.Pages.{Page}
 use Rattle.decoder.specs.Lines.{Line, put, error}
 use Rattle.decoder.specs.Lines as lines
-use Rattle.reflector.specs.Client.{Objects, place_in, by_place, max_objects, Notice, added, updated, deleted, Cache, Asks, first, next, follow, Client, kept, notice_of, places_of, differences}
-use Rattle.reflector.specs.Items.{News, begun, page, line, over, unfit, said_of_list, said_of_watch}
-use Rattle.reflector.specs.Run.{again, set_aside, is_list, with_page, moved, with_line, with_list, with_next, with_watch, with_item, hears, hears_all}
-use Rattle.reflector.specs.Replays.{with_notice, replayed, text_at, AreAlike, ArePlaced, Tells}
+use Rattle.reflector.specs.Client.{Objects, place_in, by_place, max_objects, Notice, added, updated, deleted, Cache, SyncPhase, first, next, streaming, Client, kept, notice_of, places_of, differences}
+use Rattle.reflector.specs.Items.{Response, begun, page, line, over, unexpected, said_of_list, said_of_watch}
+use Rattle.reflector.specs.Run.{relisting, keep_paged, ascends_within_limit, with_page, moved, with_line, with_list, with_next, with_watch, with_item, receives, receives_all}
+use Rattle.reflector.specs.ReplayLaws.{with_notice, replayed, text_at, AreAlike, AreUnderKey, Notifies}
 use Rattle.reflector.proofs.Places.{place_total, same_place}
 
 -- ---- texts of changed objects
@@ -69,7 +69,7 @@ settled o now p q x is = go (eq_by_cmp place_cmp q p) refl
 abbrev IsBetween : Objects → Objects → Objects → Type 0
 IsBetween before now o = (q : Place) → (text_at o q ≡ text_at before q) ⊎ (text_at o q ≡ text_at now q)
 
-module _ (before now : Objects) (placed_before : ArePlaced before) (placed_now : ArePlaced now) where
+module _ (before now : Objects) (under_key_before : AreUnderKey before) (under_key_now : AreUnderKey now) where
   -- what stands at the place now, where it is the same in both
   reached : (o : Objects) → IsBetween before now o → (q : Place) → text_at before q ≡ text_at now q → text_at o q ≡ text_at now q
   reached o between q same = go (between q)
@@ -87,7 +87,7 @@ module _ (before now : Objects) (placed_before : ArePlaced before) (placed_now :
 
       put_at : (n : Stored) → fin.get now p ≡ Some n → text_at (fin.insert o (place_in n) n) q ≡ cond (eq_by_cmp place_cmp q p) (text_at now q) (text_at o q)
       put_at n b =
-          text-insert o (place_in n) n q ∙ ap (λ z. cond (eq_by_cmp place_cmp q z) (Some n.text) (text_at o q)) (placed_now p n b)
+          text-insert o (place_in n) n q ∙ ap (λ z. cond (eq_by_cmp place_cmp q z) (Some n.text) (text_at o q)) (under_key_now p n b)
           ∙ settled o now p q (Some n.text) (λ e. sym (ap (text_at now) e ∙ ap (option_map (λ s. s.text)) b))
 
       both_there : (s n : Stored) → fin.get before p ≡ Some s → fin.get now p ≡ Some n → (t : Bool) → bytes_eq s.text n.text ≡ t
@@ -99,7 +99,7 @@ module _ (before now : Objects) (placed_before : ArePlaced before) (placed_now :
       go None None a b = quiet o now p q (λ e. reached o between q (same_texts None None a b refl e))
       go None (Some n) a b = put_at n b
       go (Some s) None a b =
-          text-remove o (place_in s) q ∙ ap (λ z. cond (eq_by_cmp place_cmp q z) None (text_at o q)) (placed_before p s a)
+          text-remove o (place_in s) q ∙ ap (λ z. cond (eq_by_cmp place_cmp q z) None (text_at o q)) (under_key_before p s a)
           ∙ settled o now p q None (λ e. sym (ap (text_at now) e ∙ ap (option_map (λ s. s.text)) b))
       go (Some s) (Some n) a b = both_there s n a b (bytes_eq s.text n.text) refl
 
@@ -170,12 +170,12 @@ put_replays o s q = go (fin.get o (place_in s)) refl
     go None is = refl
     go (Some old) is = same_or_put o s old q is (bytes_eq old.text s.text) refl
 
-pub remove_replays : (o : Objects) (s : Stored) → ArePlaced o → AreAlike (replayed o (notice_of (fin.get o (place_in s)) None)) (fin.remove o (place_in s))
-remove_replays o s placed q = go (fin.get o (place_in s)) refl
+pub remove_replays : (o : Objects) (s : Stored) → AreUnderKey o → AreAlike (replayed o (notice_of (fin.get o (place_in s)) None)) (fin.remove o (place_in s))
+remove_replays o s under_key q = go (fin.get o (place_in s)) refl
   where
     go : (x : Option Stored) → fin.get o (place_in s) ≡ x → text_at (replayed o (notice_of x None)) q ≡ text_at (fin.remove o (place_in s)) q
     go None is = sym (text-remove o (place_in s) q ∙ stays o (place_in s) q None (ap (option_map (λ s. s.text)) is) (eq_by_cmp place_cmp q (place_in s)) refl)
-    go (Some old) is = ap (λ p. text_at (fin.remove o p) q) (placed (place_in s) old is)
+    go (Some old) is = ap (λ p. text_at (fin.remove o p) q) (under_key (place_in s) old is)
 
 -- ---- places
 
@@ -185,132 +185,132 @@ some_is x y e = cc
 pub nothing_is : (x : Option Stored) (p : Place) (s : Stored) → x ≡ None → x ≡ Some s → place_in s ≡ p
 nothing_is x p s e f = absurd cc
 
-pub empty_placed : ArePlaced fin.empty
-empty_placed p s is = nothing_is (fin.get fin.empty p) p s (fin.get-empty place_cmp p) is
+pub empty_under_key : AreUnderKey fin.empty
+empty_under_key p s is = nothing_is (fin.get fin.empty p) p s (fin.get-empty place_cmp p) is
 
-pub insert_placed : (o : Objects) (s : Stored) → ArePlaced o → ArePlaced (fin.insert o (place_in s) s)
-insert_placed o s placed q t is = go (eq_by_cmp place_cmp q (place_in s)) refl (sym (fin.get-insert place_total o (place_in s) s q) ∙ is)
+pub insert_under_key : (o : Objects) (s : Stored) → AreUnderKey o → AreUnderKey (fin.insert o (place_in s) s)
+insert_under_key o s under_key q t is = go (eq_by_cmp place_cmp q (place_in s)) refl (sym (fin.get-insert place_total o (place_in s) s q) ∙ is)
   where
     go : (u : Bool) → eq_by_cmp place_cmp q (place_in s) ≡ u → cond u (Some s) (fin.get o q) ≡ Some t → place_in t ≡ q
     go true e same = ap place_in (sym (some_is s t same)) ∙ sym (same_place q (place_in s) e)
-    go false e same = placed q t same
+    go false e same = under_key q t same
 
-pub remove_placed : (o : Objects) (p : Place) → ArePlaced o → ArePlaced (fin.remove o p)
-remove_placed o p placed q t is = go (eq_by_cmp place_cmp q p) (sym (fin.get-remove place_total o p q) ∙ is)
+pub remove_under_key : (o : Objects) (p : Place) → AreUnderKey o → AreUnderKey (fin.remove o p)
+remove_under_key o p under_key q t is = go (eq_by_cmp place_cmp q p) (sym (fin.get-remove place_total o p q) ∙ is)
   where
     go : (u : Bool) → cond u None (fin.get o q) ≡ Some t → place_in t ≡ q
     go true same = absurd cc
-    go false same = placed q t same
+    go false same = under_key q t same
 
-found_placed : (all : List Stored) (q : Place) (t : Stored) → find place_cmp q (by_place all) ≡ Some t → place_in t ≡ q
-found_placed [] q t is = absurd cc
-found_placed (s ∷ all) q t is = go (eq_by_cmp place_cmp q (place_in s)) refl (λ h. found_placed all q t h) is
+found_under_key : (all : List Stored) (q : Place) (t : Stored) → find place_cmp q (by_place all) ≡ Some t → place_in t ≡ q
+found_under_key [] q t is = absurd cc
+found_under_key (s ∷ all) q t is = go (eq_by_cmp place_cmp q (place_in s)) refl (λ h. found_under_key all q t h) is
   where
     go : (u : Bool) → eq_by_cmp place_cmp q (place_in s) ≡ u → (find place_cmp q (by_place all) ≡ Some t → place_in t ≡ q) → cond u (Some s) (find place_cmp q (by_place all)) ≡ Some t → place_in t ≡ q
     go true e others same = ap place_in (sym (some_is s t same)) ∙ sym (same_place q (place_in s) e)
     go false e others same = others same
 
-pub list_placed : (all : List Stored) → T (fin.is_sorted place_cmp (by_place all)) → ArePlaced (fin.from_sorted {R = place_cmp} (by_place all))
-list_placed all sorted q t is = found_placed all q t (sym (fin.get-from_sorted place_cmp (by_place all) q sorted) ∙ is)
+pub list_under_key : (all : List Stored) → T (fin.is_sorted place_cmp (by_place all)) → AreUnderKey (fin.from_sorted {R = place_cmp} (by_place all))
+list_under_key all sorted q t is = found_under_key all q t (sym (fin.get-from_sorted place_cmp (by_place all) q sorted) ∙ is)
 
 -- ---- steps
 
-joined : (c d e : Client) → Tells c d → Tells d e → Tells c e
+joined : (c d e : Client) → Notifies c d → Notifies d e → Notifies c e
 joined c d e one more =
     record {
       since = one.since ++ more.since;
       waiting = more.waiting ∙ ap (λ ns. ns ++ more.since) one.waiting ∙ append_assoc c.notices one.since more.since;
       replay = λ q. ap (λ s. text_at s q) (replayed-append (kept c.cache) one.since more.since) ∙ alike_replayed (replayed (kept c.cache) one.since) (kept d.cache) more.since one.replay q ∙ more.replay q;
-      placed = more.placed;
+      under_key = more.under_key;
     }
 
 -- the same cache and notices
-same : (c : Client) (asks : Asks) (b : Bool) → ArePlaced (kept c.cache) → Tells c (record { cache = c.cache; asks = asks; is_asking = b; notices = c.notices })
-same c asks b placed = record { since = []; waiting = sym (append-nil c.notices); replay = λ q. refl; placed = placed }
+same : (c : Client) (sync : SyncPhase) (b : Bool) → AreUnderKey (kept c.cache) → Notifies c (record { cache = c.cache; sync = sync; is_awaiting_reply = b; notices = c.notices })
+same c sync b under_key = record { since = []; waiting = sym (append-nil c.notices); replay = λ q. refl; under_key = under_key }
 
-checks : (b : Bool) (c good : Client) → ArePlaced (kept c.cache) → Tells c good → Tells c (cond b good (again c))
-checks true c good placed is = is
-checks false c good placed is = same c first false placed
+checks : (b : Bool) (c good : Client) → AreUnderKey (kept c.cache) → Notifies c good → Notifies c (cond b good (relisting c))
+checks true c good under_key is = is
+checks false c good under_key is = same c first false under_key
 
-line_tells : (c : Client) (now : Cache) (l : Line) → c.cache ≡ Some now → ArePlaced (kept c.cache) → Tells c (with_line c now l)
-line_tells c now (put o) is placed =
+line_notifies : (c : Client) (now : Cache) (l : Line) → c.cache ≡ Some now → AreUnderKey (kept c.cache) → Notifies c (with_line c now l)
+line_notifies c now (put o) is under_key =
     let held : kept c.cache ≡ now.objects = ap kept is in
     checks (nat_lt now.revision o.revision && nat_le (fin.len (fin.insert now.objects (place_in o) o)) max_objects) c
-    (moved c o.revision (fin.insert now.objects (place_in o) o) (notice_of (fin.get now.objects (place_in o)) (Some o))) placed
+    (moved c o.revision (fin.insert now.objects (place_in o) o) (notice_of (fin.get now.objects (place_in o)) (Some o))) under_key
     (record {
       since = notice_of (fin.get now.objects (place_in o)) (Some o);
       waiting = refl;
       replay = λ q. ap (λ s. text_at (replayed s (notice_of (fin.get now.objects (place_in o)) (Some o))) q) held ∙ put_replays now.objects o q;
-      placed = insert_placed now.objects o (subst ArePlaced held placed);
+      under_key = insert_under_key now.objects o (subst AreUnderKey held under_key);
     })
-line_tells c now (lines.deleted o) is placed =
+line_notifies c now (lines.deleted o) is under_key =
     let held : kept c.cache ≡ now.objects = ap kept is in
-    let there : ArePlaced now.objects = subst ArePlaced held placed in
-    checks (nat_lt now.revision o.revision) c (moved c o.revision (fin.remove now.objects (place_in o)) (notice_of (fin.get now.objects (place_in o)) None)) placed
+    let there : AreUnderKey now.objects = subst AreUnderKey held under_key in
+    checks (nat_lt now.revision o.revision) c (moved c o.revision (fin.remove now.objects (place_in o)) (notice_of (fin.get now.objects (place_in o)) None)) under_key
     (record {
       since = notice_of (fin.get now.objects (place_in o)) None;
       waiting = refl;
       replay = λ q. ap (λ s. text_at (replayed s (notice_of (fin.get now.objects (place_in o)) None)) q) held ∙ remove_replays now.objects o there q;
-      placed = remove_placed now.objects (place_in o) there;
+      under_key = remove_under_key now.objects (place_in o) there;
     })
-line_tells c now (lines.bookmark r) is placed =
+line_notifies c now (lines.bookmark r) is under_key =
     let held : kept c.cache ≡ now.objects = ap kept is in
-    checks (nat_le now.revision r) c (moved c r now.objects []) placed
-    (record { since = []; waiting = refl; replay = λ q. ap (λ s. text_at s q) held; placed = subst ArePlaced held placed })
-line_tells c now error is placed = same c first false placed
+    checks (nat_le now.revision r) c (moved c r now.objects []) under_key
+    (record { since = []; waiting = refl; replay = λ q. ap (λ s. text_at s q) held; under_key = subst AreUnderKey held under_key })
+line_notifies c now error is under_key = same c first false under_key
 
-part_tells : (c : Client) (r : ℕ) (all : List Stored) (token : Option (List ℕ)) → is_list all ≡ true → ArePlaced (kept c.cache) → Tells c (set_aside c r all token)
-part_tells c r all (Some token) fits placed = same c (next r token all) false placed
-part_tells c r all None fits placed =
-    let there : ArePlaced (fin.from_sorted {R = place_cmp} (by_place all)) = list_placed all (first_of (fin.is_sorted place_cmp (by_place all)) _ fits) in
-    record { since = differences (kept c.cache) (fin.from_sorted {R = place_cmp} (by_place all)); waiting = refl; replay = differences_replay (kept c.cache) (fin.from_sorted {R = place_cmp} (by_place all)) placed there; placed = there }
+part_notifies : (c : Client) (r : ℕ) (all : List Stored) (token : Option (List ℕ)) → ascends_within_limit all ≡ true → AreUnderKey (kept c.cache) → Notifies c (keep_paged c r all token)
+part_notifies c r all (Some token) fits under_key = same c (next r token all) false under_key
+part_notifies c r all None fits under_key =
+    let there : AreUnderKey (fin.from_sorted {R = place_cmp} (by_place all)) = list_under_key all (first_of (fin.is_sorted place_cmp (by_place all)) _ fits) in
+    record { since = differences (kept c.cache) (fin.from_sorted {R = place_cmp} (by_place all)); waiting = refl; replay = differences_replay (kept c.cache) (fin.from_sorted {R = place_cmp} (by_place all)) under_key there; under_key = there }
   where
     first_of : (a b : Bool) → (a && b) ≡ true → T a
     first_of true b e = tt
     first_of false b e = absurd cc
 
-page_tells : (c : Client) (told : List Stored) (p : Page) → ArePlaced (kept c.cache) → Tells c (with_page c told p)
-page_tells c told p placed = go (is_list (told ++ p.objects)) refl
+page_notifies : (c : Client) (emitted : List Stored) (p : Page) → AreUnderKey (kept c.cache) → Notifies c (with_page c emitted p)
+page_notifies c emitted p under_key = go (ascends_within_limit (emitted ++ p.objects)) refl
   where
-    go : (b : Bool) → is_list (told ++ p.objects) ≡ b → Tells c (cond b (set_aside c p.revision (told ++ p.objects) p.token) (again c))
-    go true fits = part_tells c p.revision (told ++ p.objects) p.token fits placed
-    go false fits = same c first false placed
+    go : (b : Bool) → ascends_within_limit (emitted ++ p.objects) ≡ b → Notifies c (cond b (keep_paged c p.revision (emitted ++ p.objects) p.token) (relisting c))
+    go true fits = part_notifies c p.revision (emitted ++ p.objects) p.token fits under_key
+    go false fits = same c first false under_key
 
-list_tells : (c : Client) (on_page : Page → Client) (news : News) → ((p : Page) → Tells c (on_page p)) → ArePlaced (kept c.cache) → Tells c (with_list c on_page news)
-list_tells c on_page begun h placed = same c c.asks c.is_asking placed
-list_tells c on_page (page p) h placed = h p
-list_tells c on_page (line l) h placed = same c first false placed
-list_tells c on_page over h placed = same c first false placed
-list_tells c on_page unfit h placed = same c first false placed
+list_notifies : (c : Client) (on_page : Page → Client) (response : Response) → ((p : Page) → Notifies c (on_page p)) → AreUnderKey (kept c.cache) → Notifies c (with_list c on_page response)
+list_notifies c on_page begun h under_key = same c c.sync c.is_awaiting_reply under_key
+list_notifies c on_page (page p) h under_key = h p
+list_notifies c on_page (line l) h under_key = same c first false under_key
+list_notifies c on_page over h under_key = same c first false under_key
+list_notifies c on_page unexpected h under_key = same c first false under_key
 
-watch_tells : (c : Client) (cache : Option Cache) (news : News) → c.cache ≡ cache → ArePlaced (kept c.cache) → Tells c (with_watch c cache news)
-watch_tells c None begun is placed = same c c.asks c.is_asking placed
-watch_tells c (Some now) begun is placed = same c c.asks c.is_asking placed
-watch_tells c None (page p) is placed = same c first false placed
-watch_tells c (Some now) (page p) is placed = same c first false placed
-watch_tells c None (line l) is placed = same c first false placed
-watch_tells c (Some now) (line l) is placed = line_tells c now l is placed
-watch_tells c None over is placed = same c follow false placed
-watch_tells c (Some now) over is placed = same c follow false placed
-watch_tells c None unfit is placed = same c first false placed
-watch_tells c (Some now) unfit is placed = same c first false placed
+watch_notifies : (c : Client) (cache : Option Cache) (response : Response) → c.cache ≡ cache → AreUnderKey (kept c.cache) → Notifies c (with_watch c cache response)
+watch_notifies c None begun is under_key = same c c.sync c.is_awaiting_reply under_key
+watch_notifies c (Some now) begun is under_key = same c c.sync c.is_awaiting_reply under_key
+watch_notifies c None (page p) is under_key = same c first false under_key
+watch_notifies c (Some now) (page p) is under_key = same c first false under_key
+watch_notifies c None (line l) is under_key = same c first false under_key
+watch_notifies c (Some now) (line l) is under_key = line_notifies c now l is under_key
+watch_notifies c None over is under_key = same c streaming false under_key
+watch_notifies c (Some now) over is under_key = same c streaming false under_key
+watch_notifies c None unexpected is under_key = same c first false under_key
+watch_notifies c (Some now) unexpected is under_key = same c first false under_key
 
 module _ (wanted : Wanted) where
-  item_tells : (c : Client) (asks : Asks) (x : Told) → ArePlaced (kept c.cache) → Tells c (with_item wanted c asks x)
-  item_tells c first x placed = list_tells c (with_page c []) (said_of_list wanted x) (λ p. page_tells c [] p placed) placed
-  item_tells c (next r token aside) x placed =
-      list_tells c (with_next c r aside) (said_of_list wanted x) (λ p. checks (nat_eq p.revision r) c (with_page c aside p) placed (page_tells c aside p placed)) placed
-  item_tells c follow x placed = watch_tells c c.cache (said_of_watch wanted x) refl placed
+  item_notifies : (c : Client) (sync : SyncPhase) (x : ReplyItem) → AreUnderKey (kept c.cache) → Notifies c (with_item wanted c sync x)
+  item_notifies c first x under_key = list_notifies c (with_page c []) (said_of_list wanted x) (λ p. page_notifies c [] p under_key) under_key
+  item_notifies c (next r token paged_list) x under_key =
+      list_notifies c (with_next c r paged_list) (said_of_list wanted x) (λ p. checks (nat_eq p.revision r) c (with_page c paged_list p) under_key (page_notifies c paged_list p under_key)) under_key
+  item_notifies c streaming x under_key = watch_notifies c c.cache (said_of_watch wanted x) refl under_key
 
-  step_tells : (c : Client) (x : Told) → ArePlaced (kept c.cache) → Tells c (hears wanted c x)
-  step_tells c x placed = go c.is_asking
+  step_notifies : (c : Client) (x : ReplyItem) → AreUnderKey (kept c.cache) → Notifies c (receives wanted c x)
+  step_notifies c x under_key = go c.is_awaiting_reply
     where
-      go : (b : Bool) → Tells c (cond b (with_item wanted c c.asks x) c)
-      go true = item_tells c c.asks x placed
-      go false = same c c.asks c.is_asking placed
+      go : (b : Bool) → Notifies c (cond b (with_item wanted c c.sync x) c)
+      go true = item_notifies c c.sync x under_key
+      go false = same c c.sync c.is_awaiting_reply under_key
 
-  pub all_tell : (c : Client) (xs : List Told) → ArePlaced (kept c.cache) → Tells c (hears_all wanted c xs)
-  all_tell c [] placed = same c c.asks c.is_asking placed
-  all_tell c (x ∷ xs) placed =
-      let one : Tells c (hears wanted c x) = step_tells c x placed in
-      joined c (hears wanted c x) (hears_all wanted (hears wanted c x) xs) one (all_tell (hears wanted c x) xs one.placed)
+  pub all_notify : (c : Client) (xs : List ReplyItem) → AreUnderKey (kept c.cache) → Notifies c (receives_all wanted c xs)
+  all_notify c [] under_key = same c c.sync c.is_awaiting_reply under_key
+  all_notify c (x ∷ xs) under_key =
+      let one : Notifies c (receives wanted c x) = step_notifies c x under_key in
+      joined c (receives wanted c x) (receives_all wanted (receives wanted c x) xs) one (all_notify (receives wanted c x) xs one.under_key)

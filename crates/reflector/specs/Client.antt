@@ -31,24 +31,24 @@ pub record Cache : Type 0 where
   pub objects : Objects
 
 -- what is asked for next, or now
-pub data Asks : Type 0 where
+pub data SyncPhase : Type 0 where
   -- the first page of a list
-  first : Asks
+  first : SyncPhase
   -- the page of this list, of this revision, where the token goes on behind the objects that are set aside
-  next : (revision : ℕ) → (token : List ℕ) → (aside : List Stored) → Asks
+  next : (revision : ℕ) → (token : List ℕ) → (paged_list : List Stored) → SyncPhase
   -- a watch from the cache's revision
-  follow : Asks
+  streaming : SyncPhase
 
--- is_asking: a request is under way. The notices are those that weren't taken yet
+-- is_awaiting_reply: a request is under way. The notices are those that weren't taken yet
 pub record Client : Type 0 where
   pub cache : Option Cache
-  pub asks : Asks
-  pub is_asking : Bool
+  pub sync : SyncPhase
+  pub is_awaiting_reply : Bool
   pub notices : List Notice
 
 -- nothing is kept, and nothing asked yet
 abbrev pub fresh : Client
-fresh = record { cache = None; asks = first; is_asking = false; notices = [] }
+fresh = record { cache = None; sync = first; is_awaiting_reply = false; notices = [] }
 
 abbrev pub kept : Option Cache → Objects
 kept None = fin.empty

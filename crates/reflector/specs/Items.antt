@@ -1,40 +1,40 @@
 -- What an item of a reply says to a client that asks a list or a watch. All that doesn't fit the question says the same.
 use Rattle.std.specs.Prelude.{◌==◌, if◌then◌else◌}
 use Rattle.std.specs.declared.result.Result.TheVariants.{Ok, Err}
-use Rattle.wireclient.specs.Reply.{Told, head, whole, end, malformed}
+use Rattle.wireclient.specs.Reply.{ReplyItem, head, whole, end, malformed}
 use Rattle.wireclient.specs.Reply as reply
 use Rattle.decoder.specs.Wanted.{Wanted}
 use Rattle.decoder.specs.Members.{Read}
 use Rattle.decoder.specs.Pages.{Page, page_in}
 use Rattle.decoder.specs.Lines.{Line, line_in}
 
-pub data News : Type 0 where
-  begun : News  -- the reply is an answer (200)
-  page : Page → News
-  line : Line → News
-  over : News  -- the watch has ended
-  unfit : News
+pub data Response : Type 0 where
+  begun : Response  -- the reply is an answer (200)
+  page : Page → Response
+  line : Line → Response
+  over : Response  -- the watch has ended
+  unexpected : Response
 
-abbrev pub page_or_unfit : Read Page → News
+abbrev pub page_or_unfit : Read Page → Response
 page_or_unfit (Ok p) = page p
-page_or_unfit (Err m) = unfit
+page_or_unfit (Err m) = unexpected
 
-abbrev pub line_or_unfit : Read Line → News
+abbrev pub line_or_unfit : Read Line → Response
 line_or_unfit (Ok l) = line l
-line_or_unfit (Err m) = unfit
+line_or_unfit (Err m) = unexpected
 
 -- a list is answered by one body
-abbrev pub said_of_list : Wanted → Told → News
-said_of_list wanted (head status) = if status == 200 then begun else unfit
+abbrev pub said_of_list : Wanted → ReplyItem → Response
+said_of_list wanted (head status) = if status == 200 then begun else unexpected
 said_of_list wanted (whole bytes) = page_or_unfit (page_in wanted bytes)
-said_of_list wanted (reply.line bytes) = unfit
-said_of_list wanted end = unfit
-said_of_list wanted malformed = unfit
+said_of_list wanted (reply.line bytes) = unexpected
+said_of_list wanted end = unexpected
+said_of_list wanted malformed = unexpected
 
 -- a watch is answered by lines
-abbrev pub said_of_watch : Wanted → Told → News
-said_of_watch wanted (head status) = if status == 200 then begun else unfit
-said_of_watch wanted (whole bytes) = unfit
+abbrev pub said_of_watch : Wanted → ReplyItem → Response
+said_of_watch wanted (head status) = if status == 200 then begun else unexpected
+said_of_watch wanted (whole bytes) = unexpected
 said_of_watch wanted (reply.line bytes) = line_or_unfit (line_in wanted bytes)
 said_of_watch wanted end = over
-said_of_watch wanted malformed = unfit
+said_of_watch wanted malformed = unexpected

@@ -4,7 +4,7 @@ use Rattle.std.specs.Prelude.{ℕ, List, [], ◌∷◌, ◌++◌, Option, Some, 
 use Rattle.form_urlencoded.specs.Form.{append_pair}
 use Rattle.wireclient.specs.Request.{request}
 use Rattle.decoder.specs.Wanted.{Wanted, api_version_of}
-use Rattle.reflector.specs.Client.{Asks, first, next, follow, Client}
+use Rattle.reflector.specs.Client.{SyncPhase, first, next, streaming, Client}
 
 -- what is mirrored, and how: the wanted objects that the selector's text selects, in pages of so many
 pub record Settings : Type 0 where
@@ -36,12 +36,12 @@ watch_query s revision =
     with_selector s.selector (append_pair (append_pair (append_pair [] (codes "watch") (codes "true")) (codes "resourceVersion") (decimal revision)) (codes "allowWatchBookmarks") (codes "true"))
 
 -- by the revision of the cache; a client that follows has one, and without one it would begin with a list
-abbrev pub query_at : Settings → Asks → Option ℕ → List ℕ
+abbrev pub query_at : Settings → SyncPhase → Option ℕ → List ℕ
 query_at s first revision = list_query s None
-query_at s (next r token aside) revision = list_query s (Some token)
-query_at s follow None = list_query s None
-query_at s follow (Some r) = watch_query s r
+query_at s (next r token paged_list) revision = list_query s (Some token)
+query_at s streaming None = list_query s None
+query_at s streaming (Some r) = watch_query s r
 
 -- the bytes that ask what the client asks next
 abbrev pub request_of : Settings → Client → List ℕ
-request_of s c = request (codes "GET") (path_of s.wanted ++ 63 ∷ query_at s c.asks (option_map (λ now. now.revision) c.cache)) None
+request_of s c = request (codes "GET") (path_of s.wanted ++ 63 ∷ query_at s c.sync (option_map (λ now. now.revision) c.cache)) None

@@ -3,9 +3,9 @@
 //! as it wishes, it
 //!
 //! 1. sends the bytes of `next_request` on a new connection, and drops the old one;
-//! 2. hands each piece that comes to `feed`, while the informer `is_asking`, and says `closed` at the connection's end;
+//! 2. hands each piece that comes to `feed`, while the informer `is_awaiting_reply`, and says `closed` at the connection's end;
 //! 3. takes notices, and reads objects and indexes from `indexer`;
-//! 4. waits a moment where `trouble` tells why the reply was given up. What is kept stays meanwhile.
+//! 4. waits a moment where `relist_reason` tells why the reply was given up. What is kept stays meanwhile.
 //!
 //! `mirroring` has this loop. An informer lists in pages, then watches from the list's revision. However replies are cut,
 //! the objects are the server's at the revision that `revision` answers, if the server answers what it is asked: the laws
@@ -15,29 +15,29 @@
 //! objects, `names` for namespaces.
 #![tactic(auto)]
 
-mod aside;
-mod asks;
-mod hearing;
 mod informer;
 mod laws;
 mod merging;
 mod mirror;
-mod news;
 mod notice;
-mod noting;
+mod notifying;
+mod paged_list;
 mod pages;
+mod receiving;
+mod relist_reason;
 mod reply;
 mod requests;
+mod response;
 mod settings;
+mod sync;
 mod taking;
-mod trouble;
 
 pub use decoder::{Malformed, Source};
 pub use informer::Informer;
 pub use laws::{
-    follows_the_server, mirrors_the_server, notices_lead_on, notices_tell, notices_tell_exactly,
-    takes_fitting_items, takes_whole_lists, troubles_are_told,
+    follows_the_server, mirrors_the_server, notices_lead_on, notices_replay,
+    notices_replay_exactly, relist_reasons_are_exact, takes_fitting_items, takes_whole_lists,
 };
 pub use notice::Notice;
+pub use relist_reason::RelistReason;
 pub use settings::SettingsFault;
-pub use trouble::Trouble;

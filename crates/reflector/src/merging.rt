@@ -1,20 +1,20 @@
-//! What differs between two lists of objects, both in the order of places. The notices are kept in `noting`.
+//! What differs between two lists of objects, both in the order of places. The notices are kept in `notifying`.
 
 ghost use Rattle.std.specs.Prelude.{◌≡◌, ◌+◌, ◌++◌, ◌≤◌, true, drop, map, option_map, vec_capacity, vec_len};
 ghost use Rattle.std.specs.FinMap as fin;
 ghost use Rattle.indexer.specs.Objects.{place_cmp, place_of, place_of_object, shared_of};
-ghost use Rattle.reflector.specs.Between.{between, first_object, first_order, first_told, new_left, old_left};
+ghost use Rattle.reflector.specs.BetweenViews.{between, first_object, first_order, first_emitted, new_left, old_left};
 ghost use Rattle.reflector.specs.Client.{by_place};
-ghost use Rattle.reflector.specs.Seen.{held_seen, notice_seen, told_of};
+ghost use Rattle.reflector.specs.Views.{held_seen, notice_seen, emitted_of};
 
-use crate::notice::{Notice, notice_at, tell};
+use crate::notice::{Notice, notice_at, notify};
 use indexer::{Object, ObjectKey};
 use std::cmp::Ordering;
 use std::collections::VecDeque;
 use std::rc::Rc;
 
 /// Objects that were kept, each beside its key.
-type Held = VecDeque<(ObjectKey, Rc<Object>)>;
+type KeptObjects = VecDeque<(ObjectKey, Rc<Object>)>;
 
 /// Objects of a list.
 type Listed = VecDeque<Rc<Object>>;
@@ -28,7 +28,7 @@ fn order_of(key: &ObjectKey, object: &Rc<Object>) -> Ordering
 }
 
 /// How the first places of both are ordered; where one has no more objects, the other's is the first.
-fn first_order(old: &Held, new: &Listed) -> Option<Ordering>
+fn first_order(old: &KeptObjects, new: &Listed) -> Option<Ordering>
     ensures { result ≡ first_order (map held_seen old.now.items) (by_place (map shared_of new.now.items)) }
 {
     match (old.front(), new.front()) {
@@ -39,7 +39,7 @@ fn first_order(old: &Held, new: &Listed) -> Option<Ordering>
     }
 }
 
-fn pop_held(old: &mut Held) -> Option<Rc<Object>>
+fn pop_held(old: &mut KeptObjects) -> Option<Rc<Object>>
     ensures first { option_map shared_of result ≡ first_object (map held_seen old.old.items) }
     ensures left { map held_seen old.new.items ≡ drop 1 (map held_seen old.old.items) }
 {
@@ -57,8 +57,8 @@ fn pop_listed(new: &mut Listed) -> Option<Rc<Object>>
 }
 
 /// Takes the first place off both; answers its notice.
-fn take_first(order: Ordering, old: &mut Held, new: &mut Listed) -> Option<Notice>
-    ensures told { told_of result ≡ first_told order (map held_seen old.old.items) (by_place (map shared_of new.old.items)) }
+fn take_first(order: Ordering, old: &mut KeptObjects, new: &mut Listed) -> Option<Notice>
+    ensures emitted { emitted_of result ≡ first_emitted order (map held_seen old.old.items) (by_place (map shared_of new.old.items)) }
     ensures old { map held_seen old.new.items ≡ old_left order (map held_seen old.old.items) }
     ensures new { by_place (map shared_of new.new.items) ≡ new_left order (by_place (map shared_of new.old.items)) }
 {
@@ -70,19 +70,19 @@ fn take_first(order: Ordering, old: &mut Held, new: &mut Listed) -> Option<Notic
 }
 
 /// Adds the notices where the objects of the second list replace those of the first, for which there is room.
-pub(crate) fn tell_differences(
+pub(crate) fn notify_of_differences(
     old: Vec<(ObjectKey, Rc<Object>)>,
     new: Vec<Rc<Object>>,
-    told: &mut Vec<Notice>,
+    emitted: &mut Vec<Notice>,
 )
     requires old { fin.is_sorted place_cmp (map held_seen old.items) ≡ true }
     requires new { fin.is_sorted place_cmp (by_place (map shared_of new.items)) ≡ true }
-    requires room { vec_len told.old + (vec_len old + vec_len new) ≤ vec_capacity told.old }
-    ensures { map notice_seen told.new.items ≡ map notice_seen told.old.items ++ between (map held_seen old.items) (by_place (map shared_of new.items)) }
+    requires room { vec_len emitted.old + (vec_len old + vec_len new) ≤ vec_capacity emitted.old }
+    ensures { map notice_seen emitted.new.items ≡ map notice_seen emitted.old.items ++ between (map held_seen old.items) (by_place (map shared_of new.items)) }
 {
     let mut held = VecDeque::from_vec(old);
     let mut listed = VecDeque::from_vec(new);
     while let Some(order) = first_order(&held, &listed) {
-        tell(told, take_first(order, &mut held, &mut listed));
+        notify(emitted, take_first(order, &mut held, &mut listed));
     }
 }

@@ -1,9 +1,9 @@
-//! The reply to the last request. What its items change stands in `hearing`.
+//! The reply to the last request. What its items change stands in `receiving`.
 
 ghost use Rattle.std.specs.Prelude.{◌≡◌, is_some};
-ghost use Rattle.reflector.specs.Reading.{reader_of, trouble_of};
+ghost use Rattle.reflector.specs.ReadingViews.{reader_of, relist_reason_of};
 
-use crate::trouble::Trouble;
+use crate::relist_reason::RelistReason;
 use wireclient::ReplyReader;
 
 #[derive(Drop)]
@@ -13,7 +13,7 @@ pub(crate) enum Reply {
     /// It has ended, or nothing was asked yet.
     Over,
     /// It was given up.
-    GivenUp(Trouble),
+    GivenUp(RelistReason),
 }
 
 impl Reply {
@@ -25,11 +25,11 @@ impl Reply {
     }
 
     /// Why it was given up, if it was.
-    pub(crate) fn trouble(&self) -> Option<Trouble>
-        ensures { result ≡ trouble_of self.now }
+    pub(crate) fn relist_reason(&self) -> Option<RelistReason>
+        ensures { result ≡ relist_reason_of self.now }
     {
         match self {
-            Reply::GivenUp(trouble) => Some(*trouble),
+            Reply::GivenUp(relist_reason) => Some(*relist_reason),
             Reply::Open(_) | Reply::Over => None,
         }
     }

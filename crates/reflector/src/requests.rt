@@ -1,15 +1,15 @@
-//! The bytes of an informer's requests, for pages of a list and for watches. Which is due stands in `asks`.
+//! The bytes of an informer's requests, for pages of a list and for watches. Which is due stands in `sync`.
 
 ghost use Rattle.std.specs.Prelude.{◌≡◌, ◌++◌, ◌∷◌, [], None, codes, decimal, IfOk, OnOk, option_map, string_bytes};
 ghost use Rattle.form_urlencoded.specs.Form.{append_pair};
 ghost use Rattle.wireclient.specs.Request.{request};
-ghost use Rattle.decoder.specs.Seen.{wanted_of};
+ghost use Rattle.decoder.specs.Views.{wanted_of};
 ghost use Rattle.decoder.specs.Wanted.{api_version_of};
 ghost use Rattle.reflector.specs.Requests.{list_query, namespace_part, path_of, query_at, watch_query, with_selector, with_token};
-ghost use Rattle.reflector.specs.Seen.{asks_of, settings_of};
+ghost use Rattle.reflector.specs.Views.{sync_of, settings_of};
 
-use crate::asks::Asks;
 use crate::settings::Settings;
+use crate::sync::SyncPhase;
 use decoder::Wanted;
 use form_urlencoded::Serializer;
 use std::alloc::{AllocError, Global};
@@ -116,15 +116,15 @@ fn watch_query(alloc: Global, settings: &Settings, revision: u64) -> Result<Stri
 fn query_of(
     alloc: Global,
     settings: &Settings,
-    asks: &Asks,
+    sync: &SyncPhase,
     revision: Option<u64>,
 ) -> Result<String, AllocError>
-    ensures { IfOk result (λ s. string_bytes s ≡ query_at (settings_of settings.now) (asks_of asks.now) revision) }
+    ensures { IfOk result (λ s. string_bytes s ≡ query_at (settings_of settings.now) (sync_of sync.now) revision) }
 {
-    match asks {
-        Asks::First => list_query(alloc, settings, None),
-        Asks::Next(_, token, _) => list_query(alloc, settings, Some(token.as_str())),
-        Asks::Follow => match revision {
+    match sync {
+        SyncPhase::First => list_query(alloc, settings, None),
+        SyncPhase::Next(_, token, _) => list_query(alloc, settings, Some(token.as_str())),
+        SyncPhase::Streaming => match revision {
             Some(revision) => watch_query(alloc, settings, revision),
             None => list_query(alloc, settings, None),
         },
@@ -135,13 +135,13 @@ fn query_of(
 pub(crate) fn request_of(
     alloc: Global,
     settings: &Settings,
-    asks: &Asks,
+    sync: &SyncPhase,
     revision: Option<u64>,
 ) -> Result<Vec<u8>, AllocError>
-    ensures { IfOk result (λ v. v.items ≡ request (codes "GET") (path_of (settings_of settings.now).wanted ++ 63 ∷ query_at (settings_of settings.now) (asks_of asks.now) revision) None) }
+    ensures { IfOk result (λ v. v.items ≡ request (codes "GET") (path_of (settings_of settings.now).wanted ++ 63 ∷ query_at (settings_of settings.now) (sync_of sync.now) revision) None) }
 {
     let path = path_of(alloc, &settings.wanted)?;
-    let query = query_of(alloc, settings, asks, revision)?;
+    let query = query_of(alloc, settings, sync, revision)?;
     let target = format!(in alloc; "{path}?{query}")?;
     request_bytes(alloc, "GET", target.as_str(), "", None)
 }

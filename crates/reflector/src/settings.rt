@@ -2,8 +2,8 @@
 
 ghost use Rattle.std.specs.Prelude.{◌≡◌, option_map, string_bytes};
 ghost use Rattle.names.specs.Names.{is_dns_label};
-ghost use Rattle.reflector.specs.Faults.{fault_in, is_page, is_namespace_or_all};
-ghost use Rattle.reflector.specs.Seen.{settings_of};
+ghost use Rattle.reflector.specs.Faults.{fault_in, is_page_size, is_namespace_or_all};
+ghost use Rattle.reflector.specs.Views.{settings_of};
 
 use decoder::Wanted;
 use names::is_dns_label;
@@ -31,8 +31,8 @@ pub enum SettingsFault {
     Namespace,
 }
 
-fn is_page(size: u32) -> bool
-    ensures { result ≡ is_page size }
+fn is_page_size(size: u32) -> bool
+    ensures { result ≡ is_page_size size }
 {
     1 <= size && size <= MAX_PAGE
 }
@@ -49,7 +49,7 @@ fn is_namespace_or_all(namespace: &Option<String>) -> bool
 pub(crate) fn fault_in(settings: &Settings) -> Option<SettingsFault>
     ensures { result ≡ fault_in (settings_of settings.now) }
 {
-    if !is_page(settings.page) {
+    if !is_page_size(settings.page) {
         return Some(SettingsFault::Page);
     }
     if !is_namespace_or_all(&settings.wanted.namespace) {

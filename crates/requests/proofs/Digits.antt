@@ -56,15 +56,15 @@ isnt_zero : (b : ℕ) → not (b == 48) ≡ true → b ≡ 48 → ⊥
 isnt_zero b isnt is = let wrong : false ≡ true = sym (ap (λ (x : ℕ). not (x == 48)) is) ∙ isnt in absurd cc
 
 -- the same number by some digits and by a plain front and as many digits
-shorter : (ds front rest : List ℕ) → length ds ≡ length rest → 0 < length front → is_plain (front ++ rest) ≡ true → list_all is_ascii_digit ds ≡ true
-    → decimal_value ds ≡ decimal_value (front ++ rest) → ⊥
+shorter : (ds prefix rest : List ℕ) → length ds ≡ length rest → 0 < length prefix → is_plain (prefix ++ rest) ≡ true → list_all is_ascii_digit ds ≡ true
+    → decimal_value ds ≡ decimal_value (prefix ++ rest) → ⊥
 shorter ds [] rest long some plain ds-are is = omega (arith, some)
-shorter ds (f ∷ front) rest long some plain ds-are is =
-    let parts = and_parts (list_all is_ascii_digit (f ∷ (front ++ rest))) (begins_plain (f ∷ (front ++ rest))) plain in
-    let range = digit_range f (and_parts (is_ascii_digit f) (list_all is_ascii_digit (front ++ rest)) parts.0).0 in
-    let none = same_ends 0 (number_after 0 (f ∷ front)) ds rest long ds-are (all_parts (f ∷ front) rest parts.0) (is ∙ after_both 0 (f ∷ front) rest) in
-    let zero_is : 0 ≡ number_after (0 * 10 + (f - 48)) front = none.0 in
-    let more = grows (0 * 10 + (f - 48)) front in
+shorter ds (f ∷ prefix) rest long some plain ds-are is =
+    let parts = and_parts (list_all is_ascii_digit (f ∷ (prefix ++ rest))) (begins_plain (f ∷ (prefix ++ rest))) plain in
+    let range = digit_range f (and_parts (is_ascii_digit f) (list_all is_ascii_digit (prefix ++ rest)) parts.0).0 in
+    let none = same_ends 0 (number_after 0 (f ∷ prefix)) ds rest long ds-are (all_parts (f ∷ prefix) rest parts.0) (is ∙ after_both 0 (f ∷ prefix) rest) in
+    let zero_is : 0 ≡ number_after (0 * 10 + (f - 48)) prefix = none.0 in
+    let more = grows (0 * 10 + (f - 48)) prefix in
     let low : f ≡ 48 = omega (arith, zero_is, more, range.0) in
     isnt_zero f parts.1 low
 

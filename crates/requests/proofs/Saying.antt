@@ -32,13 +32,13 @@ finds_first types bytes rest request (asking.Refused d) head is carries = (accep
 finds_first types bytes rest request (asking.Call c) head is carries = (accepted (request, rest), head, is)
 
 -- more bytes of a body
-pub finds_more : (types : List ServedShape) (front bytes : List ℕ) (p : pendings.Pending) (a : askings.Progress) → Awaits types front p
-    → asked_of a ≡ pending_call p (p.body.items ++ bytes) → Carries (pending_call p) (p.body.items ++ bytes) a → Finds types (front ++ bytes) a
-finds_more types front bytes p (asking.Pending q) awaits is (came, same) = (
-  subst (Asks types (front ++ bytes)) (sym is) (awaits bytes),
-  λ more. subst (λ (b : List ℕ). Asks types b (pending_call q (q.body.items ++ more))) (sym (append_assoc front bytes more))
-      (subst (Asks types (front ++ (bytes ++ more)))
+pub finds_more : (types : List ServedShape) (prefix bytes : List ℕ) (p : pendings.Pending) (a : askings.Progress) → Awaits types prefix p
+    → asked_of a ≡ pending_call p (p.body.items ++ bytes) → Carries (pending_call p) (p.body.items ++ bytes) a → Finds types (prefix ++ bytes) a
+finds_more types prefix bytes p (asking.Pending q) awaits is (came, same) = (
+  subst (Asks types (prefix ++ bytes)) (sym is) (awaits bytes),
+  λ more. subst (λ (b : List ℕ). Asks types b (pending_call q (q.body.items ++ more))) (sym (append_assoc prefix bytes more))
+      (subst (Asks types (prefix ++ (bytes ++ more)))
       (ap (pending_call p) (sym (append_assoc p.body.items bytes more) ∙ ap (λ (b : List ℕ). b ++ more) (sym came)) ∙ same (q.body.items ++ more)) (awaits (bytes ++ more))),
 )
-finds_more types front bytes p (asking.Refused d) awaits is carries = subst (Asks types (front ++ bytes)) (sym is) (awaits bytes)
-finds_more types front bytes p (asking.Call c) awaits is carries = subst (Asks types (front ++ bytes)) (sym is) (awaits bytes)
+finds_more types prefix bytes p (asking.Refused d) awaits is carries = subst (Asks types (prefix ++ bytes)) (sym is) (awaits bytes)
+finds_more types prefix bytes p (asking.Call c) awaits is carries = subst (Asks types (prefix ++ bytes)) (sym is) (awaits bytes)

@@ -1,4 +1,4 @@
--- What the head of a request says (RFC 9112, sections 2.2, 3, 5 and 6), and when a front of a connection's bytes has it.
+-- What the head of a request says (RFC 9112, sections 2.2, 3, 5 and 6), and when a prefix of a connection's bytes has it.
 use Rattle.std.specs.Prelude.{◌≡◌, ◌⊎◌, ℕ, Bool, ◌==◌, not, nat_lt, if◌then◌else◌, List, [], ◌∷◌, ◌++◌, length, map, take, drop, Option, Some, None, codes, nat_eq}
 use Rattle.std.specs.List.{list_any, starts_with, filter}
 use Rattle.httparse.specs.Grammar.{RequestHead, ReadsRequest}

@@ -2,7 +2,7 @@ pub mod Decision
 pub mod Refusals
 pub mod Heads
 pub mod HeadEnds
-pub mod Fronts
+pub mod ReadBufferViews
 pub mod Bodies
 pub mod ReplyBytes
 pub mod Replies

@@ -2,7 +2,7 @@
 use Rattle.std.specs.Prelude.{◌≡◌, ℕ, List, ◌++◌, Option, Some, None, ⊤}
 use Rattle.api_types.specs.TypesFile.{ServedShape}
 use Rattle.api_request.specs.Calls.{Target}
-use Rattle.api_request.specs.Seen.{call_of, denied_of, target_of}
+use Rattle.api_request.specs.Views.{call_of, denied_of, target_of}
 use Rattle.requests.specs.declared.asking.Progress as askings
 use Rattle.requests.specs.declared.asking.Progress.TheVariants as asking
 use Rattle.requests.specs.declared.asking.Pending as pendings
@@ -30,7 +30,7 @@ Carries f rest (asking.Call c) = ⊤
 
 -- whatever bytes follow these on the connection, they are the body's
 abbrev pub Awaits : List ServedShape → List ℕ → pendings.Pending → Type 0
-Awaits types front p = (more : List ℕ) → Asks types (front ++ more) (pending_call p (p.body.items ++ more))
+Awaits types prefix p = (more : List ℕ) → Asks types (prefix ++ more) (pending_call p (p.body.items ++ more))
 
 -- these bytes ask this
 abbrev pub Finds : List ServedShape → List ℕ → askings.Progress → Type 0

@@ -12,7 +12,7 @@ use Rattle.std.specs.declared.result.Result.TheVariants.{Ok, Err}
 use Rattle.api_request.specs.declared.admitting.Denied.{Denied as TheDenied}
 use Rattle.api_request.specs.declared.body.Body.{Body}
 use Rattle.api_request.specs.Calls.{Denied}
-use Rattle.api_request.specs.Seen.{body_seen, denied_of}
+use Rattle.api_request.specs.Views.{body_seen, denied_of}
 use Rattle.wire.specs.Lengths.{decimal_value}
 use Rattle.requests.specs.declared.refusal.Refusal as refusals
 use Rattle.requests.specs.declared.refusal.Refusal.TheVariants as refusal

@@ -1,7 +1,7 @@
 //! What is written on a connection for a refusal and for a call's answer. The bytes of a reply stand in `reply`.
 
 ghost use Rattle.std.specs.Prelude.{◌≡◌, IfOk};
-ghost use Rattle.api_request.specs.Seen.{answer_of, denied_of};
+ghost use Rattle.api_request.specs.Views.{answer_of, denied_of};
 ghost use Rattle.requests.specs.Replies.{answer_bytes, refusal_reply};
 
 use crate::reply::{reply_bytes, watch_head};

@@ -5,7 +5,7 @@
 ghost use Rattle.std.specs.Prelude.{◌≡◌, ◌++◌, ℕ, List, IfOk, take};
 ghost use Rattle.api_types.specs.Served.{types_view};
 ghost use Rattle.api_types.specs.TypesFile.{ServedShape};
-ghost use Rattle.api_request.specs.Seen.{target_of};
+ghost use Rattle.api_request.specs.Views.{target_of};
 ghost use Rattle.wire.specs.Heads.{head_end, max_head};
 ghost use Rattle.requests.specs.Asks.{call_with, call_in};
 ghost use Rattle.requests.specs.Bodies.{body_in, declared_body};
@@ -71,7 +71,7 @@ fn ask_body(
 /// What a connection asks once more bytes of its request's body have come; they are the body's, since the head has come whole
 /// (RFC 9112, section 6.3).
 pub fn ask_on(alloc: Global, pending: Pending, bytes: &[u8]) -> Result<Progress, AllocError>
-    ensures { (types : List ServedShape) (front : List ℕ) → Awaits types front pending → IfOk result (Finds types (front ++ bytes.now)) }
+    ensures { (types : List ServedShape) (prefix : List ℕ) → Awaits types prefix pending → IfOk result (Finds types (prefix ++ bytes.now)) }
 {
     let Pending {
         target,
@@ -166,7 +166,7 @@ fn ask_by_head(
     }
 }
 
-/// What the bytes that came on a connection ask where these types are served, by how many of them the head has (`Front::find_end`); none while
+/// What the bytes that came on a connection ask where these types are served, by how many of them the head has (`ReadBuffer::find_end`); none while
 /// more of its head is to come.
 pub fn ask(
     alloc: Global,

@@ -5,7 +5,7 @@ ghost use Rattle.std.specs.Prelude.{◌≡◌, ◌≤◌, ◌++◌, ℕ, List, l
 ghost use Rattle.wire.specs.Heads.{end_from, head_end, max_head};
 ghost use Rattle.requests.specs.HeadEnds.{IsWithin, end_after};
 
-use wire::{MAX_HEAD, Place, place_after};
+use wire::{MAX_HEAD, ScanState, place_after};
 
 /// How far a head was searched for its end.
 #[derive(Clone, Copy, Debug)]
@@ -13,7 +13,7 @@ pub(crate) struct Searched {
     /// How many of its bytes were searched.
     pub(crate) count: usize,
     /// Where these stand.
-    pub(crate) place: Place,
+    pub(crate) place: ScanState,
 }
 
 /// What a search for a head's end finds.
@@ -26,7 +26,7 @@ pub(crate) struct Found {
 }
 
 /// Searches from a byte on, before which the head stands at this place.
-pub(crate) fn search_from(bytes: &[u8], from: usize, begin: Place) -> Found
+pub(crate) fn search_from(bytes: &[u8], from: usize, begin: ScanState) -> Found
     requires { from ≤ length bytes.now }
     ensures end { result.end ≡ end_from begin from (drop from bytes.now) }
     ensures within { IsWithin bytes.now result.searched }
@@ -53,7 +53,7 @@ pub(crate) fn search_from(bytes: &[u8], from: usize, begin: Place) -> Found
     }
 }
 
-pub(crate) fn front_of(bytes: &[u8]) -> &[u8]
+pub(crate) fn bytes_before(bytes: &[u8]) -> &[u8]
     ensures { result.now ≡ take max_head bytes.now }
 {
     if bytes.len() > MAX_HEAD {
@@ -67,5 +67,5 @@ pub(crate) fn front_of(bytes: &[u8]) -> &[u8]
 pub(crate) fn end_of(bytes: &[u8]) -> Option<usize>
     ensures { result ≡ head_end (take max_head bytes.now) }
 {
-    search_from(front_of(bytes), 0, Place::Leading).end
+    search_from(bytes_before(bytes), 0, ScanState::Leading).end
 }

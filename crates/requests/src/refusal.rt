@@ -3,7 +3,7 @@
 ghost use Rattle.std.specs.Prelude.{◌≡◌};
 ghost use Rattle.requests.specs.Refusals.{as_denied, reason_of, message_of};
 ghost use Rattle.requests.specs.Views.{refusal_seen};
-ghost use Rattle.api_request.specs.Seen.{denied_of};
+ghost use Rattle.api_request.specs.Views.{denied_of};
 
 use crate::body::BODY_TOO_LARGE;
 use api_request::{Denied, NOT_JSON, Reason};

@@ -7,7 +7,7 @@ use Rattle.std.proofs.lemmas.List.{drop-map, get_or-map, length-drop, length-map
 use Rattle.std.proofs.lemmas.List.Elements.{All-drop, All-from_recursion, All-push, All-same, All-set, filter-append}
 use Rattle.std.proofs.lemmas.Map.Text.{is_eq-slice_cmp}
 use Rattle.history.specs.declared.object.Object.{Object as TheObject}
-use Rattle.history.specs.History.{Change, History, IsRising, Key, Object, last_revision, later, standing, state_at, text_cmp, up_to, written}
+use Rattle.history.specs.History.{Change, History, IsRising, Key, Object, last_revision, later, current_objects, state_at, text_cmp, up_to, written}
 use Rattle.history.specs.Kept.{IsPruned, between_marks, pruned}
 use Rattle.history.specs.Page.{changes_within, is_within, picked}
 use Rattle.history.specs.Read.{change_of, key_of, object_of}
@@ -16,9 +16,9 @@ use Rattle.history.specs.View.{view}
 use Rattle.history.proofs.Seen.{later_up_to}
 use Rattle.history.proofs.Views.{kept_later, kept_states}
 use Rattle.revtable.proofs.Numbers.{span_whole}
-use Rattle.revstore.specs.Recent.{AreLatest, IsBefore, changes_in}
-use Rattle.revstore.specs.declared.recent.Latest.{Latest}
-use Rattle.revstore.specs.declared.recent.Recent.{Recent}
+use Rattle.revstore.specs.ChangeWindow.{AreLatest, IsBefore, changes_in}
+use Rattle.revstore.specs.declared.window.Latest.{Latest}
+use Rattle.revstore.specs.declared.window.ChangeWindow.{ChangeWindow}
 
 pub named_within : (kind : ℕ) (ns : List ℕ) (k : Key) (b : Bool) → k.kind ≡ kind → b ≡ bytes_eq k.namespace ns → b ≡ is_within kind (Some ns) k
 named_within kind ns k b same is = is ∙ sym (is_eq-slice_cmp k.namespace ns) ∙ ap (λ t. t && is_eq (text_cmp k.namespace ns)) (sym (eq-eqb k.kind kind same))
@@ -75,10 +75,10 @@ later-at lo top (c ∷ cs) (suc n) d lt rise =
     let b : c.revision < (get_or cs n d).revision = others.above in
     record { above = omega arith; within = others.within; rest = later-drops (get_or cs n d).revision c cs (omega arith) ∙ others.rest }
 
--- ---- what is remembered
+-- ---- what is cached
 
 -- the changes in it rise
-pub latest_rise : (h : History) (r : Recent) → IsRising 0 h.changes h.current → AreLatest h r → IsRising r.from (changes_in r.latest.items) h.current
+pub latest_rise : (h : History) (r : ChangeWindow) → IsRising 0 h.changes h.current → AreLatest h r → IsRising r.from (changes_in r.latest.items) h.current
 latest_rise h r is are = subst (λ cs. IsRising r.from cs h.current) (sym are.changes) (rising-later 0 r.from h.current h.changes zero-le are.from is)
 
 -- where one of them is not after a revision, none before it is
@@ -109,7 +109,7 @@ part_left h from xs n l is low all lt at =
           ∙ later-later from d.revision h.changes (omega arith);
     }
 
-pub part_stays : (h : History) (r s : Recent) (n gone left : ℕ) (l : Latest) → IsRising 0 h.changes h.current → AreLatest h r → n < length r.latest.items → l ≡ get_or r.latest.items n l → suc n ≡ gone
+pub part_stays : (h : History) (r s : ChangeWindow) (n gone left : ℕ) (l : Latest) → IsRising 0 h.changes h.current → AreLatest h r → n < length r.latest.items → l ≡ get_or r.latest.items n l → suc n ≡ gone
     → left + gone ≡ length r.latest.items → s.from ≡ l.change.revision → s.latest.items ≡ take left (drop gone r.latest.items ++ take gone r.latest.items) → AreLatest h s
 part_stays h r s n gone left l is are lt at next both from kept =
     let xs : List Latest = r.latest.items in
@@ -130,7 +130,7 @@ by_both lo top [] a b = tt
 by_both lo top (x ∷ xs) a b = ((a.0, b.0), by_both lo top xs a.1 b.1)
 
 -- they are above the revision that they begin from, and none is above the current one
-all_between : (h : History) (r : Recent) → IsRising 0 h.changes h.current → AreLatest h r → All (IsBetween r.from h.current) r.latest.items
+all_between : (h : History) (r : ChangeWindow) → IsRising 0 h.changes h.current → AreLatest h r → All (IsBetween r.from h.current) r.latest.items
 all_between h r is are =
     let rise : IsRising r.from (changes_in r.latest.items) h.current = latest_rise h r is are in
     All-from_recursion (IsBetween r.from h.current) r.latest.items (by_both r.from h.current r.latest.items (all_above r.from h.current _ rise) (all_within r.from h.current _ rise))
@@ -156,13 +156,13 @@ later-push : (lo : ℕ) (cs : List Change) (d : Change) → lo < d.revision → 
 later-push lo cs d h = filter-append (λ c. nat_lt lo c.revision) cs (d ∷ []) ∙ ap (λ b. later lo cs ++ cond b (d ∷ []) []) (lt-ltb lo d.revision h)
 
 -- what stands just before the next revision is what stands now
-pub before_current : (h : History) (l : Latest) → l.change.revision ≡ suc h.current → IfSome l.before (λ o. option_map object_of o ≡ fin.get (standing h) (key_of l.change.key)) → IsBefore h l
+pub before_current : (h : History) (l : Latest) → l.change.revision ≡ suc h.current → IfSome l.before (λ o. option_map object_of o ≡ fin.get (current_objects h) (key_of l.change.key)) → IsBefore h l
 before_current h l next is =
     let same : h.current ≡ l.change.revision - 1 = omega (arith, next) in
     subst (λ n. IfSome l.before (λ o. option_map object_of o ≡ fin.get (state_at h.changes n) (key_of l.change.key))) same is
 
 -- one more change, of the next revision
-pub next_latest : (h : History) (r s : Recent) (l : Latest) → IsRising 0 h.changes h.current → l.change.revision ≡ suc h.current → AreLatest h r → s.from ≡ r.from → s.latest.items ≡ r.latest.items ++ l ∷ []
+pub next_latest : (h : History) (r s : ChangeWindow) (l : Latest) → IsRising 0 h.changes h.current → l.change.revision ≡ suc h.current → AreLatest h r → s.from ≡ r.from → s.latest.items ≡ r.latest.items ++ l ∷ []
     → IsBefore h l → AreLatest (written h (key_of l.change.key) (option_map string_bytes l.change.body)) s
 next_latest h r s l is next are from pushed before =
     let low : r.from ≤ h.current = are.from in
@@ -180,7 +180,7 @@ next_latest h r s l is next are from pushed before =
     }
 
 -- a compaction at or below the revision that they begin from leaves them
-pub still_latest : (h : History) (r : Recent) (to : ℕ) → IsRising 0 h.changes h.current → AreLatest h r → to ≤ r.from → AreLatest (pruned to h) r
+pub still_latest : (h : History) (r : ChangeWindow) (to : ℕ) → IsRising 0 h.changes h.current → AreLatest h r → to ≤ r.from → AreLatest (pruned to h) r
 still_latest h r to is are low = record {
   from = are.from;
   changes = are.changes ∙ sym (kept_later to r.from h.current h.changes is low);
@@ -193,7 +193,7 @@ set_alike f (x ∷ xs) zero y d lt is = ap (λ z. z ∷ map f xs) is
 set_alike f (x ∷ xs) (suc i) y d lt is = ap (λ l. f x ∷ l) (set_alike f xs i y d (omega arith) is)
 
 -- what stood before one of them is put aside
-pub one_known : (h : History) (r s : Recent) (i : ℕ) (l : Latest) (before : Option Object) → AreLatest h r → i < length r.latest.items → l ≡ get_or r.latest.items i l
+pub one_known : (h : History) (r s : ChangeWindow) (i : ℕ) (l : Latest) (before : Option Object) → AreLatest h r → i < length r.latest.items → l ≡ get_or r.latest.items i l
     → before ≡ fin.get (state_at h.changes (l.change.revision - 1)) (key_of l.change.key)
     → (known : Option TheObject) → option_map object_of known ≡ before
     → s.from ≡ r.from → s.latest.items ≡ set r.latest.items i (record { change = l.change; before = Some known }) → AreLatest h s

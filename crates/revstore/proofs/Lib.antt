@@ -1,2 +1,2 @@
 pub mod Latest
-pub mod Slots
+pub mod ObjectCache

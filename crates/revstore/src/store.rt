@@ -9,10 +9,10 @@ ghost use Rattle.history.specs.View.{IsView, compacted_in, state_in, view, writt
 ghost use Rattle.history.specs.Whole.{AreThere};
 ghost use Rattle.history.specs.Writes.{changes_by, written_all_in};
 
+use crate::cached::{ObjectCache, known_now, with_read, write_over};
 use crate::fault::{ChangesFault, CompactFault, ListFault, WriteFault};
-use crate::held::{Slots, known_now, with_read, write_over};
-use crate::recent::{
-    Recent, known_before, known_changes, once_compacted, remember_before, with_change,
+use crate::window::{
+    ChangeWindow, known_before, known_changes, once_compacted, remember_before, with_change,
 };
 use history::{Change, Entry, Key, LAST_REVISION, Object, Write};
 use revtable::{Fault, Keep, Table};
@@ -22,17 +22,17 @@ use std::mem;
 /// The objects of all types, by key, and their changes.
 pub struct Store {
     table: Table,
-    /// The latest changes, where they are remembered.
-    recent: Option<Recent>,
+    /// The latest changes, where they are cached.
+    window: Option<ChangeWindow>,
     /// What stands under the keys that were written or read last, where it is held.
-    held: Option<Slots>,
+    cached: Option<ObjectCache>,
 }
 
 impl Model for Store {
     ghost use Rattle.std.specs.Prelude.{IfSome};
     ghost use Rattle.history.specs.Kept.{IsPruned};
-    ghost use Rattle.revstore.specs.Held.{AreIn};
-    ghost use Rattle.revstore.specs.Recent.{AreLatest};
+    ghost use Rattle.revstore.specs.CachedObject.{AreIn};
+    ghost use Rattle.revstore.specs.ChangeWindow.{AreLatest};
     ghost use Rattle.history.specs.Codes.{view_code};
     ghost use Rattle.history.specs.View.{View, view as view_of};
 
@@ -42,7 +42,7 @@ impl Model for Store {
 
     ghost view = { λ s. view_of s.table };
 
-    ghost invariant = { λ s. IsPruned s.table × IfSome s.recent (AreLatest s.table) × IfSome s.held (AreIn s.table) };
+    ghost invariant = { λ s. IsPruned s.table × IfSome s.window (AreLatest s.table) × IfSome s.cached (AreIn s.table) };
 }
 
 // It is written out, so that what holds a store does not prove again how each part is dropped.
@@ -50,8 +50,8 @@ impl Drop for Store {
     fn drop(self) {
         let Store {
             table: _,
-            recent: _,
-            held: _,
+            window: _,
+            cached: _,
         } = self;
     }
 }
@@ -64,8 +64,8 @@ impl Store {
         let _ = table.marks();
         Store {
             table,
-            recent: None,
-            held: None,
+            window: None,
+            cached: None,
         }
     }
 
@@ -98,9 +98,9 @@ impl Store {
         }
         let revision = current + 1;
         self.table.put(revision, key, body)?;
-        let before = write_over(&mut self.held, key, revision, body);
-        let recent = mem::replace(&mut self.recent, None);
-        self.recent = with_change(recent, revision, key, body, before);
+        let before = write_over(&mut self.cached, key, revision, body);
+        let window = mem::replace(&mut self.window, None);
+        self.window = with_change(window, revision, key, body, before);
         Ok(revision)
     }
 
@@ -118,8 +118,8 @@ impl Store {
             return Err(WriteFault::Exhausted);
         }
         self.table.put_all(writes)?;
-        self.recent = None;
-        self.held = None;
+        self.window = None;
+        self.cached = None;
         Ok(current + count)
     }
 
@@ -128,12 +128,12 @@ impl Store {
         ensures ok { IfOk result (λ o. option_map object_of o ≡ fin.get (state_in self.old self.old.current) (key_of key.now)) }
         ensures same { self.new ≡ self.old }
     {
-        if let Some(object) = known_now(&self.held, key)? {
+        if let Some(object) = known_now(&self.cached, key)? {
             return Ok(object);
         }
         let object = self.table.latest(key)?;
-        let held = mem::replace(&mut self.held, None);
-        self.held = with_read(held, key, &object);
+        let cached = mem::replace(&mut self.cached, None);
+        self.cached = with_read(cached, key, &object);
         Ok(object)
     }
 
@@ -213,7 +213,7 @@ impl Store {
         if after < marks.compacted {
             return Err(ChangesFault::Expired);
         }
-        if let Some(changes) = known_changes(&self.recent, kind, namespace, after, max)? {
+        if let Some(changes) = known_changes(&self.window, kind, namespace, after, max)? {
             return Ok(changes);
         }
         Ok(self.table.span(kind, namespace, after, marks.current, max)?)
@@ -226,11 +226,11 @@ impl Store {
         ensures ok { IfOk result (λ o. option_map object_of o ≡ fin.get (state_in self.old (revision - 1)) (key_of key.now)) }
         ensures same { self.new ≡ self.old }
     {
-        if let Some(before) = known_before(&self.recent, key, revision)? {
+        if let Some(before) = known_before(&self.window, key, revision)? {
             return Ok(before);
         }
         let before = self.table.latest_at(key, revision - 1)?;
-        remember_before(&mut self.recent, key, revision, &before);
+        remember_before(&mut self.window, key, revision, &before);
         Ok(before)
     }
 
@@ -249,8 +249,8 @@ impl Store {
             return Err(CompactFault::TooLarge);
         }
         self.table.prune(revision)?;
-        let recent = mem::replace(&mut self.recent, None);
-        self.recent = once_compacted(recent, revision);
+        let window = mem::replace(&mut self.window, None);
+        self.window = once_compacted(window, revision);
         Ok(())
     }
 }

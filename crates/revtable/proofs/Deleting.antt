@@ -25,7 +25,7 @@ use Rattle.sqlite_sql.specs.Term.{Env}
 use Rattle.sqlite_value.proofs.OrderLemmas.{value_cmp-Int}
 use Rattle.sqlite_keyed.proofs.ListLemmas.{map-map, filter-map, filter_same, filter_all, all_of, all_both, all_weaker}
 use Rattle.history.proofs.Lists.{filter_both}
-use Rattle.history.proofs.Standing.{filter_same_on}
+use Rattle.history.proofs.CurrentObjects.{filter_same_on}
 use Rattle.revtable.specs.Rows.{object_table, the_schema, row_of, marks_tree, HasRows, IsOrdered}
 use Rattle.revtable.specs.Spans.{Span, Stored, is_ended, without_ended}
 use Rattle.revtable.proofs.Made.{kept_if}

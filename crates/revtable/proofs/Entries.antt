@@ -11,10 +11,10 @@ use Rattle.sqlite.specs.Tree.{IsAscending}
 use Rattle.sqlite_keyed.proofs.ListLemmas.{IsPermutation-filter, IsPermutation-same, filter_all, filter_same, all_weaker, all_of}
 use Rattle.history.specs.History.{Key, Change, Object, Objects, key_cmp, is_same_key, object_by, left_by, put_or_remove, changed, up_to, state_at, IsRising}
 use Rattle.revtable.specs.Asked.{as_change}
-use Rattle.history.specs.Kept.{stands}
+use Rattle.history.specs.Kept.{is_last_up_to}
 use Rattle.history.proofs.Keys.{key_cmp_total, key_cmp_antisymmetric, same}
 use Rattle.history.proofs.Lists.{filter_both}
-use Rattle.history.proofs.Standing.{standing_by, standing_is, has_later}
+use Rattle.history.proofs.CurrentObjects.{current_objects_by, current_objects_is, has_later}
 use Rattle.revtable.proofs.Nexts.{same_key_symm}
 
 abbrev pub Entry : Type 0
@@ -86,9 +86,9 @@ put_shuffles k v (e ∷ es) h = go (key_cmp k e.0) refl (put_shuffles k v es (se
 abbrev touched : List Change → Key → Bool
 touched cs k = list_any (λ d. is_same_key k d.key) cs
 
-abbrev standing_of : List Change → List Change
-standing_of [] = []
-standing_of (d ∷ cs) = cond (is_some d.body && not (touched cs d.key)) (d ∷ standing_of cs) (standing_of cs)
+abbrev current_objects_of : List Change → List Change
+current_objects_of [] = []
+current_objects_of (d ∷ cs) = cond (is_some d.body && not (touched cs d.key)) (d ∷ current_objects_of cs) (current_objects_of cs)
 
 abbrev untouched : List Change → List Entry → List Entry
 untouched cs = filter (λ e. not (touched cs e.0))
@@ -123,20 +123,20 @@ module _ (s : Objects) (d : Change) (cs : List Change) where
     shuffled t is = subst (λ l. IsPermutation l (untouched cs (fin.entries (fin.insert s d.key o)))) (split t is) inserted
 
     by_touch : d ≡ as_change (d.key, o) → (t : Bool) → touched cs d.key ≡ t
-        → IsPermutation (map as_change (untouched (d ∷ cs) (fin.entries s)) ++ cond (not t) (d ∷ standing_of cs) (standing_of cs)) (map as_change (untouched cs (fin.entries (fin.insert s d.key o))) ++ standing_of cs)
-    by_touch eq true is = IsPermutation-append _ _ _ _ (IsPermutation-map as_change _ _ (shuffled true is)) (IsPermutation-refl (standing_of cs))
+        → IsPermutation (map as_change (untouched (d ∷ cs) (fin.entries s)) ++ cond (not t) (d ∷ current_objects_of cs) (current_objects_of cs)) (map as_change (untouched cs (fin.entries (fin.insert s d.key o))) ++ current_objects_of cs)
+    by_touch eq true is = IsPermutation-append _ _ _ _ (IsPermutation-map as_change _ _ (shuffled true is)) (IsPermutation-refl (current_objects_of cs))
     by_touch eq false is =
-        IsPermutation-trans _ _ _ (IsPermutation-middle (map as_change (untouched (d ∷ cs) (fin.entries s))) d (standing_of cs))
-        (subst (λ x. IsPermutation (x ∷ map as_change (untouched (d ∷ cs) (fin.entries s)) ++ standing_of cs) (map as_change (untouched cs (fin.entries (fin.insert s d.key o))) ++ standing_of cs)) (sym eq)
-        (IsPermutation-append _ _ _ _ (IsPermutation-map as_change _ _ (shuffled false is)) (IsPermutation-refl (standing_of cs))))
+        IsPermutation-trans _ _ _ (IsPermutation-middle (map as_change (untouched (d ∷ cs) (fin.entries s))) d (current_objects_of cs))
+        (subst (λ x. IsPermutation (x ∷ map as_change (untouched (d ∷ cs) (fin.entries s)) ++ current_objects_of cs) (map as_change (untouched cs (fin.entries (fin.insert s d.key o))) ++ current_objects_of cs)) (sym eq)
+        (IsPermutation-append _ _ _ _ (IsPermutation-map as_change _ _ (shuffled false is)) (IsPermutation-refl (current_objects_of cs))))
 
   by_body : (b : Option (List ℕ)) → d.body ≡ b
-      → IsPermutation (map as_change (untouched (d ∷ cs) (fin.entries s)) ++ cond (is_some b && not (touched cs d.key)) (d ∷ standing_of cs) (standing_of cs))
-      (map as_change (untouched cs (fin.entries (put_or_remove s d.key (object_by d.revision b)))) ++ standing_of cs)
-  by_body None is = IsPermutation-same _ _ (ap (λ l. map as_change l ++ standing_of cs) (sym removed))
+      → IsPermutation (map as_change (untouched (d ∷ cs) (fin.entries s)) ++ cond (is_some b && not (touched cs d.key)) (d ∷ current_objects_of cs) (current_objects_of cs))
+      (map as_change (untouched cs (fin.entries (put_or_remove s d.key (object_by d.revision b)))) ++ current_objects_of cs)
+  by_body None is = IsPermutation-same _ _ (ap (λ l. map as_change l ++ current_objects_of cs) (sym removed))
   by_body (Some b) is = by_touch (record { revision = d.revision; body = b }) (rw (sym is) refl) (touched cs d.key) refl
 
-all_changes : (s : Objects) (cs : List Change) → IsPermutation (map as_change (untouched cs (fin.entries s)) ++ standing_of cs) (map as_change (fin.entries (changed s cs)))
+all_changes : (s : Objects) (cs : List Change) → IsPermutation (map as_change (untouched cs (fin.entries s)) ++ current_objects_of cs) (map as_change (fin.entries (changed s cs)))
 all_changes s [] = IsPermutation-same _ _ (append-nil _ ∙ ap (map as_change) (filter_all (λ e. true) (fin.entries s) (all_of (λ e. true ≡ true) (λ e. refl) (fin.entries s))))
 all_changes s (d ∷ cs) = IsPermutation-trans _ _ _ (by_body s d cs d.body refl) (all_changes (put_or_remove s d.key (left_by d)) cs)
 
@@ -150,13 +150,13 @@ later_is r k (d ∷ cs) = go (nat_le d.revision r) (later_is r k cs)
     go true more = ap (λ t. is_same_key k d.key || t) more
     go false more = more
 
-standing_up_to : (r : ℕ) (cs : List Change) → standing_by r cs ≡ standing_of (up_to r cs)
-standing_up_to r [] = refl
-standing_up_to r (d ∷ cs) = go (nat_le d.revision r) (standing_up_to r cs)
+current_objects_up_to : (r : ℕ) (cs : List Change) → current_objects_by r cs ≡ current_objects_of (up_to r cs)
+current_objects_up_to r [] = refl
+current_objects_up_to r (d ∷ cs) = go (nat_le d.revision r) (current_objects_up_to r cs)
   where
-    go : (b : Bool) → standing_by r cs ≡ standing_of (up_to r cs)
-        → cond (b && (is_some d.body && not (has_later r d.key cs))) (d ∷ standing_by r cs) (standing_by r cs) ≡ standing_of (cond b (d ∷ up_to r cs) (up_to r cs))
-    go true more = ap (λ t. cond (is_some d.body && not t) (d ∷ standing_by r cs) (standing_by r cs)) (later_is r d.key cs) ∙ ap (λ l. cond (is_some d.body && not (touched (up_to r cs) d.key)) (d ∷ l) l) more
+    go : (b : Bool) → current_objects_by r cs ≡ current_objects_of (up_to r cs)
+        → cond (b && (is_some d.body && not (has_later r d.key cs))) (d ∷ current_objects_by r cs) (current_objects_by r cs) ≡ current_objects_of (cond b (d ∷ up_to r cs) (up_to r cs))
+    go true more = ap (λ t. cond (is_some d.body && not t) (d ∷ current_objects_by r cs) (current_objects_by r cs)) (later_is r d.key cs) ∙ ap (λ l. cond (is_some d.body && not (touched (up_to r cs) d.key)) (d ∷ l) l) more
     go false more = more
 
 no_length : {A : Type 0} (xs : List A) → length xs ≡ 0 → xs ≡ []
@@ -166,7 +166,7 @@ no_length (x ∷ xs) e = absurd (omega arith)
 no_entries : fin.entries (fin.empty {X = Object} {R = key_cmp}) ≡ []
 no_entries = no_length _ (sym (fin.len-entries fin.empty) ∙ fin.len-empty key_cmp Object)
 
-pub standing_entries : (r lo top : ℕ) (cs : List Change) → IsRising lo cs top → IsPermutation (filter (stands r cs) cs) (map as_change (fin.entries (state_at cs r)))
-standing_entries r lo top cs rise =
-    subst (λ l. IsPermutation l (map as_change (fin.entries (state_at cs r)))) (ap (λ es. map as_change (untouched (up_to r cs) es) ++ standing_of (up_to r cs)) no_entries ∙ sym (standing_is r lo top cs rise ∙ standing_up_to r cs))
+pub current_objects_entries : (r lo top : ℕ) (cs : List Change) → IsRising lo cs top → IsPermutation (filter (is_last_up_to r cs) cs) (map as_change (fin.entries (state_at cs r)))
+current_objects_entries r lo top cs rise =
+    subst (λ l. IsPermutation l (map as_change (fin.entries (state_at cs r)))) (ap (λ es. map as_change (untouched (up_to r cs) es) ++ current_objects_of (up_to r cs)) no_entries ∙ sym (current_objects_is r lo top cs rise ∙ current_objects_up_to r cs))
     (all_changes fin.empty (up_to r cs))

@@ -3,7 +3,7 @@ use Rattle.std.proofs.Common.{◌≡◌, ℕ, suc, ◌+◌, ◌≤◌, ◌<◌, 
 use Rattle.std.specs.Prelude.{is_none}
 use Rattle.std.specs.FinMap as fin
 use Rattle.std.specs.List.{AllByRecursion}
-use Rattle.history.specs.History.{Key, Change, History, IsRising, is_same_key, last_revision, standing, written}
+use Rattle.history.specs.History.{Key, Change, History, IsRising, is_same_key, last_revision, current_objects, written}
 use Rattle.history.specs.Kept.{IsPruned, between_marks, kept, pruned}
 use Rattle.history.specs.Whole.{AreThere}
 use Rattle.history.specs.Writes.{changes_by, written_all}
@@ -72,13 +72,13 @@ put_is n c h k body next low =
     ∙ ap (λ l. record { spans = l; current = suc h.current; compacted = h.compacted }) (sym (spans_push h.changes (next_change (suc h.current) k body)))
 
 -- of several writes
-pub after_puts : (st : Stored) (ws : List (Key × Option (List ℕ))) → IsWritten st → st.current + length ws ≤ last_revision → AreThere (standing (history_of st)) (changes_by st.current ws)
+pub after_puts : (st : Stored) (ws : List (Key × Option (List ℕ))) → IsWritten st → st.current + length ws ≤ last_revision → AreThere (current_objects (history_of st)) (changes_by st.current ws)
     → IsWritten (stored_of (written_all (history_of st) ws)) × (history_of (stored_of (written_all (history_of st) ws)) ≡ written_all (history_of st) ws)
 after_puts st ws w fits there =
     let h = history_of st in
     written_rows (written_all h ws) (kept_all h ws w.pruned fits) (there_all h ws w.pruned.is.rising w.there there)
 
-pub after_put : (n : ℕ) (st : Stored) (k : Key) (body : Option (List ℕ)) → IsWritten st → n ≡ suc st.current → n ≤ last_revision → (body ≡ None → fin.contains_key (standing (history_of st)) k ≡ true)
+pub after_put : (n : ℕ) (st : Stored) (k : Key) (body : Option (List ℕ)) → IsWritten st → n ≡ suc st.current → n ≤ last_revision → (body ≡ None → fin.contains_key (current_objects (history_of st)) k ≡ true)
     → IsWritten (put_in n st.compacted k body st) × (history_of (put_in n st.compacted k body st) ≡ written (history_of st) k body)
 after_put n st k body w next fits there =
     let h = history_of st in
@@ -103,12 +103,12 @@ none_back (Some b) e = absurd cc
 
 -- the table's fields hold the numbers too
 pub put_stands : (n compacted : ℕ) (log new : Stored) (self : History) (k : Key) (body : Option (Bor (List ℕ))) → IsWritten log → compacted ≡ log.compacted → history_of log ≡ self → n ≡ suc self.current → n ≤ last_revision
-    → (body ≡ None → fin.contains_key (standing self) k ≡ true) → new ≡ put_in n compacted k (option_map (λ b. b.now) body) log
+    → (body ≡ None → fin.contains_key (current_objects self) k ≡ true) → new ≡ put_in n compacted k (option_map (λ b. b.now) body) log
     → (IsWritten new × (n ≡ new.current) × (compacted ≡ new.compacted)) × (history_of new ≡ written self k (option_map (λ b. b.now) body))
 put_stands n compacted log new self k body w low is next fits there made =
     let b = option_map (λ b. b.now) body in
     let e : new ≡ put_in n log.compacted k b log = made ∙ ap (λ p. put_in n p k b log) low in
-    let all = after_put n log k b w (next ∙ ap (λ (h : History). suc h.current) (sym is)) fits (λ none. ap (λ h. fin.contains_key (standing h) k) is ∙ there (none_back body none)) in
+    let all = after_put n log k b w (next ∙ ap (λ (h : History). suc h.current) (sym is)) fits (λ none. ap (λ h. fin.contains_key (current_objects h) k) is ∙ there (none_back body none)) in
     ((subst IsWritten (sym e) all.0, sym (ap (λ (st : Stored). st.current) e), low ∙ sym (ap (λ (st : Stored). st.compacted) e)), ap history_of e ∙ all.1 ∙ ap (λ h. written h k b) is)
 
 -- ---- once it is compacted

@@ -44,8 +44,8 @@ found_in kept rows = kept_among kept (map entry_shown rows)
 pub found_both : (kept : List ℕ → Bool) (xs ys : List Row) → found_in kept (xs ++ ys) ≡ found_in kept xs ++ found_in kept ys
 found_both kept xs ys = ap (kept_among kept) (map-append entry_shown xs ys) ∙ filter-append (λ (e : Key × Object). kept e.1.body) (map entry_shown xs) (map entry_shown ys)
 
-take_front : {X : Type 0} (n : ℕ) (xs ys : List X) → length xs ≤ n → take n (xs ++ ys) ≡ xs ++ take (n - length xs) ys
-take_front n xs ys le =
+take_prefix : {X : Type 0} (n : ℕ) (xs ys : List X) → length xs ≤ n → take n (xs ++ ys) ≡ xs ++ take (n - length xs) ys
+take_prefix n xs ys le =
     let whole : take n xs ≡ xs = take_whole n xs le in
     take_both n xs ys ∙ ap (λ l. l ++ take (n - length l) ys) whole
 
@@ -62,8 +62,8 @@ pub found_first : (kept : List ℕ → Bool) (max : ℕ) (given tail : List Row)
 found_first kept max given tail few fits done =
     let more = take (last_revision - length given) tail in
     let others = found_in kept more in
-    sym (ap (λ rows. take max (found_in kept rows)) (take_front last_revision given tail few)
-    ∙ ap (take max) (found_both kept given more) ∙ take_front max (found_in kept given) others fits
+    sym (ap (λ rows. take max (found_in kept rows)) (take_prefix last_revision given tail few)
+    ∙ ap (take max) (found_both kept given more) ∙ take_prefix max (found_in kept given) others fits
     ∙ ap (λ l. found_in kept given ++ l) (none done) ∙ append-nil (found_in kept given))
   where
     none : IsDone max (found_in kept given) given tail → take (max - length (found_in kept given)) (found_in kept (take (last_revision - length given) tail)) ≡ []
@@ -137,8 +137,8 @@ module _ (sql : List ℕ) (plain : IsPlain (understood the_schema sql)) (unliste
   )
 
   -- the rows that were read begin an answer
-  pub front_answer : (s : State) (rows : List Row) → IsTrue s.is_open → Keeps st s → Begins sql params s rows → (tail : List Row) × IsAnswer sql params st (rows ++ tail)
-  front_answer s rows live keeps h =
+  pub prefix_answer : (s : State) (rows : List Row) → IsTrue s.is_open → Keeps st s → Begins sql params s rows → (tail : List Row) × IsAnswer sql params st (rows ++ tail)
+  prefix_answer s rows live keeps h =
       let is = (keeps.rows live).0 in
       let all = begins_shown sql params s s rows h (still s live) (λ c db it from.
       bare_ends c.command db (timed params c.formats it.now) (subst (λ r. IsBare (command_in r)) (ap (λ schema. understood schema sql) (sym is.schema) ∙ it.is) bare)) in
@@ -160,7 +160,7 @@ module _ (sql : List ℕ) (plain : IsPlain (understood the_schema sql)) (unliste
         → length given ≤ last_revision → length found ≤ max → (length given ≡ last_revision) ⊎ (max ≤ length found) → AreFirstKept sql params st kept max (map entry_of found)
     stopped kept max now given found keeps it is few fits done =
         let count : length (found_in kept given) ≡ length found = counted kept given found is in
-        let all = front_answer (state g now) given (open_while now given it) keeps (given_begin g sql params now given it) in
+        let all = prefix_answer (state g now) given (open_while now given it) keeps (given_begin g sql params now given it) in
         let whole : (length given ≡ last_revision) ⊎ (length (found_in kept given) ≡ max) = elim done [ inl read ↦ inl read | inr enough ↦ inr (omega (arith, count, fits, enough)) ] in
         (given ++ all.0, all.1, is ∙ found_first kept max given all.0 few (omega (arith, count, fits)) (inr whole))
 

@@ -10,7 +10,7 @@ use Rattle.history.specs.History.{Key, Objects, Change, IsRising, changed, is_sa
 use Rattle.history.specs.Kept.{kept}
 use Rattle.history.specs.Whole.{AreThere}
 use Rattle.history.proofs.Revisions.{rising-filter, rising-later, up_to-all, up_to-split}
-use Rattle.history.proofs.Standing.{has_later, kept_by, kept_is}
+use Rattle.history.proofs.CurrentObjects.{has_later, kept_by, kept_is}
 use Rattle.history.proofs.Views.{kept_later, kept_states, none_later}
 use Rattle.revtable.specs.Spans.{is_ended, is_past, next_of, span_until, spans_of, spans_until, without_ended}
 use Rattle.revtable.proofs.Nexts.{next-cons, past_is}

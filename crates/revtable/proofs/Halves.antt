@@ -85,10 +85,10 @@ module _ (kind : ℕ) (ns : List ℕ) (name : Option (List ℕ)) where
 
 -- ---- where a page begins
 
-from_front : (a : Bool) (n : List ℕ) → ((a && true) && true) ≡ (((a && is_eq (text_cmp n [])) && true) || (a && is_gt (text_cmp n [])))
-from_front true [] = refl
-from_front true (x ∷ n) = refl
-from_front false n = refl
+from_prefix : (a : Bool) (n : List ℕ) → ((a && true) && true) ≡ (((a && is_eq (text_cmp n [])) && true) || (a && is_gt (text_cmp n [])))
+from_prefix true [] = refl
+from_prefix true (x ∷ n) = refl
+from_prefix false n = refl
 
 from_place : (a : Bool) (o p : Ordering) → ((a && true) && is_gt (ordering_then o p)) ≡ (((a && is_eq o) && is_gt p) || (a && is_gt o))
 from_place true Less p = refl
@@ -102,7 +102,7 @@ from_place false o p = refl
 pub begins_all : (kind : ℕ) (after : Option (List ℕ × List ℕ)) (s : Objects) (ns : List ℕ) (name : Option (List ℕ)) → begins None after ≡ Some (ns, name)
     → listed kind None after s ≡ in_one kind ns name s ++ in_later kind ns s
 begins_all kind None s ns name e = subst (λ (b : List ℕ × Option (List ℕ)). listed kind None None s ≡ in_one kind b.0 b.1 s ++ in_later kind b.0 s) (ap (λ o. unwrap_or o (ns, name)) e)
-    (filter_same _ _ (λ (e : Entry). from_front (e.0.kind == kind) e.0.namespace) (fin.entries s) ∙ both_halves kind [] None s)
+    (filter_same _ _ (λ (e : Entry). from_prefix (e.0.kind == kind) e.0.namespace) (fin.entries s) ∙ both_halves kind [] None s)
 begins_all kind (Some after) s ns name e = subst (λ (b : List ℕ × Option (List ℕ)). listed kind None (Some after) s ≡ in_one kind b.0 b.1 s ++ in_later kind b.0 s) (ap (λ o. unwrap_or o (ns, name)) e)
     (filter_same _ _ (λ (e : Entry). from_place (e.0.kind == kind) (text_cmp e.0.namespace after.0) (text_cmp e.0.name after.1)) (fin.entries s) ∙ both_halves kind after.0 (Some after.1) s)
 

@@ -7,7 +7,7 @@ pub mod Fields
 pub mod Files
 pub mod FirstKept
 pub mod Forgets
-pub mod Fronts
+pub mod Prefixes
 pub mod Halves
 pub mod Inserts
 pub mod Lists

@@ -1,4 +1,4 @@
--- Lists turned round, and fronts of lists.
+-- Lists turned round, and prefixes of lists.
 use Rattle.std.proofs.Common.{◌≡◌, List, [], ◌∷◌, ◌++◌, map, reverse, refl, sym, ap, ◌∙◌}
 use Rattle.std.proofs.lemmas.List.{reverse-append, map-append}
 use Rattle.std.specs.List.{AllByRecursion}

@@ -6,11 +6,11 @@ use Rattle.std.specs.Prelude.{nat_le, nat_lt, is_some}
 use Rattle.std.specs.List.{AllByRecursion}
 use Rattle.std.specs.Cmp.{eq_by_cmp_equiv}
 use Rattle.history.specs.History.{Key, Change, IsRising, is_same_key}
-use Rattle.history.specs.Kept.{stands, with_body}
+use Rattle.history.specs.Kept.{is_last_up_to, with_body}
 use Rattle.history.proofs.Keys.{key_cmp_total}
-use Rattle.history.proofs.Standing.{has_later, standing_by, standing_is}
+use Rattle.history.proofs.CurrentObjects.{has_later, current_objects_by, current_objects_is}
 use Rattle.history.proofs.Views.{none_later}
-use Rattle.revtable.specs.Spans.{is_past, made_by, next_of, span_until, spans_of, spans_until, stands_at}
+use Rattle.revtable.specs.Spans.{is_past, made_by, next_of, span_until, spans_of, spans_until, is_current_at}
 use Rattle.sqlite_keyed.proofs.ListLemmas.{all-append}
 
 pub same_key_symm : (a b : Key) → is_same_key a b ≡ is_same_key b a
@@ -77,15 +77,15 @@ made_all (c ∷ cs) = go c.body refl (made_all cs)
 
 -- ---- what stands
 
-pub standing_spans : (r lo top : ℕ) (cs : List Change) → IsRising lo cs top → map made_by (filter (stands_at r) (spans_of cs)) ≡ filter (stands r cs) cs
-standing_spans r lo top cs rise = by_steps lo cs rise ∙ sym (standing_is r lo top cs rise)
+pub current_objects_spans : (r lo top : ℕ) (cs : List Change) → IsRising lo cs top → map made_by (filter (is_current_at r) (spans_of cs)) ≡ filter (is_last_up_to r cs) cs
+current_objects_spans r lo top cs rise = by_steps lo cs rise ∙ sym (current_objects_is r lo top cs rise)
   where
-    by_steps : (lo : ℕ) (cs : List Change) → IsRising lo cs top → map made_by (filter (stands_at r) (spans_of cs)) ≡ standing_by r cs
+    by_steps : (lo : ℕ) (cs : List Change) → IsRising lo cs top → map made_by (filter (is_current_at r) (spans_of cs)) ≡ current_objects_by r cs
     by_steps lo [] rise = refl
     by_steps lo (c ∷ cs) rise = go c.body refl (by_steps c.revision cs rise.1)
       where
-        kept : (t : Bool) (body : List ℕ) → c.body ≡ Some body → map made_by (filter (stands_at r) (spans_of cs)) ≡ standing_by r cs
-            → map made_by (cond t (span_until c.key c.revision body (next_of c.key cs) ∷ filter (stands_at r) (spans_of cs)) (filter (stands_at r) (spans_of cs))) ≡ cond t (c ∷ standing_by r cs) (standing_by r cs)
+        kept : (t : Bool) (body : List ℕ) → c.body ≡ Some body → map made_by (filter (is_current_at r) (spans_of cs)) ≡ current_objects_by r cs
+            → map made_by (cond t (span_until c.key c.revision body (next_of c.key cs) ∷ filter (is_current_at r) (spans_of cs)) (filter (is_current_at r) (spans_of cs))) ≡ cond t (c ∷ current_objects_by r cs) (current_objects_by r cs)
         kept true body e more = rw (made_until c body (next_of c.key cs) e) (ap (λ l. c ∷ l) more)
         kept false body e more = more
 
@@ -93,12 +93,12 @@ standing_spans r lo top cs rise = by_steps lo cs rise ∙ sym (standing_is r lo 
         first_until body None = refl
         first_until body (Some n) = refl
 
-        go : (b : Option (List ℕ)) → c.body ≡ b → map made_by (filter (stands_at r) (spans_of cs)) ≡ standing_by r cs
-            → map made_by (filter (stands_at r) (spans_until c.key c.revision b (next_of c.key cs) ++ spans_of cs))
-            ≡ cond (nat_le c.revision r && (is_some b && not (has_later r c.key cs))) (c ∷ standing_by r cs) (standing_by r cs)
-        go None e more = more ∙ ap (λ t. cond t (c ∷ standing_by r cs) (standing_by r cs)) (sym (and_false (nat_le c.revision r)))
+        go : (b : Option (List ℕ)) → c.body ≡ b → map made_by (filter (is_current_at r) (spans_of cs)) ≡ current_objects_by r cs
+            → map made_by (filter (is_current_at r) (spans_until c.key c.revision b (next_of c.key cs) ++ spans_of cs))
+            ≡ cond (nat_le c.revision r && (is_some b && not (has_later r c.key cs))) (c ∷ current_objects_by r cs) (current_objects_by r cs)
+        go None e more = more ∙ ap (λ t. cond t (c ∷ current_objects_by r cs) (current_objects_by r cs)) (sym (and_false (nat_le c.revision r)))
         go (Some body) e more =
-            ap (λ t. map made_by (cond t (span_until c.key c.revision body (next_of c.key cs) ∷ filter (stands_at r) (spans_of cs)) (filter (stands_at r) (spans_of cs))))
+            ap (λ t. map made_by (cond t (span_until c.key c.revision body (next_of c.key cs) ∷ filter (is_current_at r) (spans_of cs)) (filter (is_current_at r) (spans_of cs))))
             (ap (λ n. nat_le n r && is_past r (span_until c.key c.revision body (next_of c.key cs)).ended) (first_until body (next_of c.key cs)) ∙ ap (λ t. nat_le c.revision r && t) (past_is r c.revision top c.revision c.key body cs rise.1))
             ∙ kept (nat_le c.revision r && not (has_later r c.key cs)) body e more
 

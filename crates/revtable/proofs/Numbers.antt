@@ -19,7 +19,7 @@ use Rattle.revtable.specs.Rows.{shown, number_in}
 use Rattle.history.proofs.Keys.{key_cmp_total}
 use Rattle.history.proofs.Lists.{filter_turned}
 use Rattle.history.proofs.Revisions.{all_above, all_within, rising-filter, up_to-below}
-use Rattle.history.proofs.Standing.{filter_same_on}
+use Rattle.history.proofs.CurrentObjects.{filter_same_on}
 
 pub ascending : (lo top : ℕ) (cs : List Change) → IsRising lo cs top → IsAscending (λ a b. a.revision < b.revision) cs
 ascending lo top [] rise = tt

@@ -23,14 +23,14 @@ use Rattle.sqlite_keyed.proofs.SortLemmas.{sorted_unique}
 use Rattle.sqlite_keyed.proofs.ListLemmas.{map-map, ascending-map, ascending-filter, ascending_weaker, filter-map, filter_same, all_both, IsPermutation-filter}
 use Rattle.history.specs.History.{Key, Change, text_cmp, key_cmp, is_same_key, state_at, IsRising}
 use Rattle.revtable.specs.Asked.{as_change, is_in_one, is_from, in_one, in_from, under}
-use Rattle.history.specs.Kept.{stands}
+use Rattle.history.specs.Kept.{is_last_up_to}
 use Rattle.history.proofs.Keys.{tied}
 use Rattle.history.proofs.Lists.{filter_both}
 use Rattle.revtable.specs.Rows.{row_of, shown}
-use Rattle.revtable.specs.Spans.{Span, made_by, spans_of, stands_at}
-use Rattle.revtable.proofs.Entries.{Entry, entries_ascend, standing_entries}
+use Rattle.revtable.specs.Spans.{Span, made_by, spans_of, is_current_at}
+use Rattle.revtable.proofs.Entries.{Entry, entries_ascend, current_objects_entries}
 use Rattle.revtable.proofs.Made.{kept_if, take-map}
-use Rattle.revtable.proofs.Nexts.{standing_spans}
+use Rattle.revtable.proofs.Nexts.{current_objects_spans}
 use Rattle.revtable.proofs.Where.{bound_key, bound_page, bound_in, bound_from, in_tests_are, from_tests_are, newest_tests}
 use Rattle.revtable.proofs.Texts.{page_query, newest_query, in_tests, from_tests}
 
@@ -40,7 +40,7 @@ module _ (asked : List Term) (rest : Row) (wanted : Key → Bool) (r max : ℕ) 
   env_of s = bound_page r max rest ∷ row_of s ∷ []
 
   abbrev is_on_page : Span → Bool
-  is_on_page s = stands_at r s && wanted s.key
+  is_on_page s = is_current_at r s && wanted s.key
 
   abbrev pub AreTests : Type 0
   AreTests = (s : Span) → list_all (holds (env_of s)) asked ≡ is_on_page s
@@ -55,10 +55,10 @@ module _ (asked : List Term) (rest : Row) (wanted : Key → Bool) (r max : ℕ) 
 
 -- the changes that the rows began with which stand and are wanted
 wanted_made : (wanted : Key → Bool) (r lo top : ℕ) (cs : List Change) → IsRising lo cs top
-    → map made_by (filter (λ s. stands_at r s && wanted s.key) (spans_of cs)) ≡ filter (λ c. wanted c.key) (filter (stands r cs) cs)
+    → map made_by (filter (λ s. is_current_at r s && wanted s.key) (spans_of cs)) ≡ filter (λ c. wanted c.key) (filter (is_last_up_to r cs) cs)
 wanted_made wanted r lo top cs rise =
-    ap (map made_by) (sym (filter_both (λ (s : Span). wanted s.key) (stands_at r) (spans_of cs))) ∙ sym (filter-map (λ c. wanted c.key) made_by (filter (stands_at r) (spans_of cs)))
-    ∙ ap (filter (λ c. wanted c.key)) (standing_spans r lo top cs rise)
+    ap (map made_by) (sym (filter_both (λ (s : Span). wanted s.key) (is_current_at r) (spans_of cs))) ∙ sym (filter-map (λ c. wanted c.key) made_by (filter (is_current_at r) (spans_of cs)))
+    ∙ ap (filter (λ c. wanted c.key)) (current_objects_spans r lo top cs rise)
 
 abbrev shows : Change → Output
 shows it = (Words it.key.namespace ∷ Words it.key.name ∷ [], shown it)
@@ -105,8 +105,8 @@ finds_page asked rest wanted kind db changes r max top rows tests of_kind is ris
     let show : Entry → Output = λ e. shows (as_change e) in
     let same : IsPermutation mine (map as_change there) =
     subst (λ l. IsPermutation l (map as_change there)) (sym (wanted_made wanted r 0 top changes rising))
-    (subst (IsPermutation (filter (λ (c : Change). wanted c.key) (filter (stands r changes) changes))) (filter-map (λ (c : Change). wanted c.key) as_change es)
-    (IsPermutation-filter (λ (c : Change). wanted c.key) _ _ (standing_entries r 0 top changes rising))) in
+    (subst (IsPermutation (filter (λ (c : Change). wanted c.key) (filter (is_last_up_to r changes) changes))) (filter-map (λ (c : Change). wanted c.key) as_change es)
+    (IsPermutation-filter (λ (c : Change). wanted c.key) _ _ (current_objects_entries r 0 top changes rising))) in
     let facts = ascending_with (λ e f. key_cmp e.0 f.0 ≡ Less) (λ e. wanted e.0 ≡ true) there
     (ascending-filter _ (λ (e : Entry). wanted e.0) es (entries_ascend es (fin.entries_sorted (state_at changes r)))) (all_pass (λ (e : Entry). wanted e.0) es) in
     let up : IsAscending (λ x y. output_cmp (page_query asked) x y ≡ Less) (map show there) =
@@ -161,7 +161,7 @@ module _ (k : Key) (r : ℕ) where
   key_env s = bound_newest ∷ row_of s ∷ []
 
   abbrev is_newest : Span → Bool
-  is_newest s = is_same_key k s.key && stands_at r s
+  is_newest s = is_same_key k s.key && is_current_at r s
 
   matched_key : (lost : Value) (trees : Trees) (spans : List Span) → trees 0 ≡ map row_of spans → matches_as lost trees newest_query.filter newest_query.from (bound_newest ∷ []) ≡ map key_env (filter is_newest spans)
   matched_key lost trees spans is = ap (flat_map (λ row. matches_as lost trees newest_query.filter end (bound_newest ∷ row ∷ []))) is ∙ go spans
@@ -193,12 +193,12 @@ module _ (k : Key) (r : ℕ) where
       let kept : a.kept ≡ map shows_one mine = a.distinct ∙ ap (map (output newest_query)) staged ∙ map-map (output newest_query) key_env spans ∙ sym (map-map shows_one made_by spans) in
       let es = fin.entries (state_at cs r) in
       let there = under k (state_at cs r) in
-      let these : mine ≡ filter (λ (c : Change). is_same_key k c.key) (filter (stands r cs) cs) =
-      ap (map made_by) (filter_same _ _ (λ (s : Span). turned (is_same_key k s.key) (stands_at r s)) (spans_of cs)) ∙ wanted_made (is_same_key k) r 0 top cs rising in
+      let these : mine ≡ filter (λ (c : Change). is_same_key k c.key) (filter (is_last_up_to r cs) cs) =
+      ap (map made_by) (filter_same _ _ (λ (s : Span). turned (is_same_key k s.key) (is_current_at r s)) (spans_of cs)) ∙ wanted_made (is_same_key k) r 0 top cs rising in
       let same : IsPermutation mine (map as_change there) =
       subst (λ l. IsPermutation l (map as_change there)) (sym these)
-      (subst (IsPermutation (filter (λ (c : Change). is_same_key k c.key) (filter (stands r cs) cs))) (filter-map (λ (c : Change). is_same_key k c.key) as_change es)
-      (IsPermutation-filter (λ (c : Change). is_same_key k c.key) _ _ (standing_entries r 0 top cs rising))) in
+      (subst (IsPermutation (filter (λ (c : Change). is_same_key k c.key) (filter (is_last_up_to r cs) cs))) (filter-map (λ (c : Change). is_same_key k c.key) as_change es)
+      (IsPermutation-filter (λ (c : Change). is_same_key k c.key) _ _ (current_objects_entries r 0 top cs rising))) in
       let all : IsPermutation (map (λ e. shows_one (as_change e)) there) a.ordered =
       IsPermutation-trans _ _ _ (subst (λ l. IsPermutation l (map shows_one mine)) (map-map shows_one as_change there) (IsPermutation-map shows_one _ _ (IsPermutation-sym _ _ same))) (subst (λ l. IsPermutation l a.ordered) kept a.same) in
       a.shown ∙ ends there a.ordered (at_most_one k es (entries_ascend es (fin.entries_sorted (state_at cs r)))) all

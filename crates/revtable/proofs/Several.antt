@@ -2,7 +2,7 @@
 use Rattle.std.proofs.Common.{◌≡◌, ℕ, ◌+◌, ◌<◌, ◌≤◌, List, [], ◌∷◌, ◌++◌, length, map, take, get_or, sym, ap, subst, ◌∙◌, Option, arith}
 use Rattle.std.proofs.lemmas.List.{length-map, length-take-le, map-append, take_all, take_more}
 use Rattle.history.specs.declared.write.Write.{Write}
-use Rattle.history.specs.History.{History, IsRising, last_revision, standing, written}
+use Rattle.history.specs.History.{History, IsRising, last_revision, current_objects, written}
 use Rattle.history.specs.Read.{key_of, write_of}
 use Rattle.history.specs.Whole.{AreThere}
 use Rattle.history.specs.Writes.{changes_by, written_all}
@@ -42,14 +42,14 @@ rising_so_far h ws i rising = rising_all h (map write_of (take i ws)) rising
 
 -- the table's fields hold the numbers too
 pub puts_stand : (current compacted : ℕ) (log new : Stored) (self : History) (writes : List Write) → IsWritten log → compacted ≡ log.compacted → history_of log ≡ self → current ≡ self.current
-    → self.current + length writes ≤ last_revision → AreThere (standing self) (changes_by self.current (map write_of writes)) → new ≡ stored_of (written_all (history_of log) (map write_of writes))
+    → self.current + length writes ≤ last_revision → AreThere (current_objects self) (changes_by self.current (map write_of writes)) → new ≡ stored_of (written_all (history_of log) (map write_of writes))
     → (IsWritten new × (current + length writes ≡ new.current) × (compacted ≡ new.compacted)) × (history_of new ≡ written_all self (map write_of writes))
 puts_stand current compacted log new self writes w low is now fits there made =
     let h = history_of log in
     let ws = map write_of writes in
     let count : length ws ≡ length writes = length-map writes write_of in
     let same : h.current ≡ self.current = ap (λ (g : History). g.current) is in
-    let all = after_puts log ws w (omega (arith, fits, count, same)) (subst (λ g. AreThere (standing g) (changes_by g.current ws)) (sym is) there) in
+    let all = after_puts log ws w (omega (arith, fits, count, same)) (subst (λ g. AreThere (current_objects g) (changes_by g.current ws)) (sym is) there) in
     let next : new.current ≡ h.current + length ws = ap (λ (st : Stored). st.current) made ∙ current_all h ws in (
       (subst IsWritten (sym made) all.0, omega (arith, now, count, same, next), low ∙ sym (compacted_all h ws) ∙ sym (ap (λ (st : Stored). st.compacted) made)),
       ap history_of made ∙ all.1 ∙ ap (λ g. written_all g ws) is,

@@ -19,7 +19,7 @@ use Rattle.history.specs.History.{Key, text_cmp, is_same_key}
 use Rattle.revtable.specs.Asked.{is_past_name, is_in_one, is_from, low_of}
 use Rattle.history.specs.Page.{is_in_namespace, is_within}
 use Rattle.revtable.specs.Rows.{row_of, body_value, flag, number_value}
-use Rattle.revtable.specs.Spans.{Span, is_ended, is_past, stands_at}
+use Rattle.revtable.specs.Spans.{Span, is_ended, is_past, is_current_at}
 use Rattle.revtable.proofs.Nexts.{same_key_symm}
 use Rattle.revtable.proofs.Texts.{last_query, newest_query, made_query, deleted_query, end_query, delete_query, in_tests, from_tests}
 
@@ -140,10 +140,10 @@ of_key k q d =
 pub last_tests : (k : Key) (s : Span) → list_all (holds (bound_key k [] ∷ row_of s ∷ [])) last_query.filter ≡ is_same_key k s.key
 last_tests k s = rw (equal s.key.kind k.kind, same_text s.key.namespace k.namespace, same_text s.key.name k.name) (of_key k s.key true ∙ with_true (is_same_key k s.key))
 
-pub newest_tests : (k : Key) (r : ℕ) (s : Span) → list_all (holds (bound_key k (Int (pos r) ∷ []) ∷ row_of s ∷ [])) newest_query.filter ≡ (is_same_key k s.key && stands_at r s)
+pub newest_tests : (k : Key) (r : ℕ) (s : Span) → list_all (holds (bound_key k (Int (pos r) ∷ []) ∷ row_of s ∷ [])) newest_query.filter ≡ (is_same_key k s.key && is_current_at r s)
 newest_tests k r s =
     rw (equal s.key.kind k.kind, same_text s.key.namespace k.namespace, same_text s.key.name k.name, at_most s.first r, ended_above r s.ended, with_true (is_past r s.ended))
-    (of_key k s.key (stands_at r s))
+    (of_key k s.key (is_current_at r s))
 
 -- ---- the end of a row, and rows that ended
 
@@ -246,14 +246,14 @@ later_turn false n true = refl
 later_turn false n false = refl
 
 pub in_tests_are : (kind : ℕ) (ns : List ℕ) (name : Option (List ℕ)) (r max : ℕ) (s : Span)
-    → list_all (holds (bound_page r max (bound_in kind ns name) ∷ row_of s ∷ [])) in_tests ≡ (stands_at r s && is_in_one kind ns name s.key)
+    → list_all (holds (bound_page r max (bound_in kind ns name) ∷ row_of s ∷ [])) in_tests ≡ (is_current_at r s && is_in_one kind ns name s.key)
 in_tests_are kind ns name r max s =
     rw (equal s.key.kind kind, same_text s.key.namespace ns, from_low s.key.name (low_of name), at_most s.first r, ended_above r s.ended, with_true (is_past r s.ended))
-    (ap (λ b. (s.key.kind == kind) && (is_eq (text_cmp s.key.namespace ns) && (b && stands_at r s))) (from_name name s.key.name)
-    ∙ in_turn (s.key.kind == kind) (is_eq (text_cmp s.key.namespace ns)) (is_past_name name s.key.name) (stands_at r s))
+    (ap (λ b. (s.key.kind == kind) && (is_eq (text_cmp s.key.namespace ns) && (b && is_current_at r s))) (from_name name s.key.name)
+    ∙ in_turn (s.key.kind == kind) (is_eq (text_cmp s.key.namespace ns)) (is_past_name name s.key.name) (is_current_at r s))
 
 pub from_tests_are : (kind : ℕ) (low : List ℕ) (r max : ℕ) (s : Span)
-    → list_all (holds (bound_page r max (bound_from kind low) ∷ row_of s ∷ [])) from_tests ≡ (stands_at r s && is_from kind low s.key)
+    → list_all (holds (bound_page r max (bound_from kind low) ∷ row_of s ∷ [])) from_tests ≡ (is_current_at r s && is_from kind low s.key)
 from_tests_are kind low r max s =
     rw (equal s.key.kind kind, from_low s.key.namespace low, at_most s.first r, ended_above r s.ended, with_true (is_past r s.ended))
-    (later_turn (s.key.kind == kind) (is_ge (text_cmp s.key.namespace low)) (stands_at r s))
+    (later_turn (s.key.kind == kind) (is_ge (text_cmp s.key.namespace low)) (is_current_at r s))

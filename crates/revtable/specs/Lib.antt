@@ -1,6 +1,6 @@
 pub mod Asked
 pub mod Decoded
-pub mod Faults
+pub mod FaultViews
 pub mod Kept
 pub mod Rows
 pub mod Spans

@@ -68,8 +68,8 @@ is_past r None = true
 is_past r (Some ended) = nat_lt r ended
 
 -- it stands at a revision
-abbrev pub stands_at : ℕ → Span → Bool
-stands_at r s = nat_le s.first r && is_past r s.ended
+abbrev pub is_current_at : ℕ → Span → Bool
+is_current_at r s = nat_le s.first r && is_past r s.ended
 
 -- ---- a write and a compaction
 

@@ -17,7 +17,7 @@ pub enum Fault {
 
 impl From<Error> for Fault {
     ghost use Rattle.std.specs.Prelude.{◌≡◌};
-    ghost use Rattle.revtable.specs.Faults.{fault_of};
+    ghost use Rattle.revtable.specs.FaultViews.{fault_of};
 
     ghost from_gives = { λ error fault. fault ≡ fault_of error };
 

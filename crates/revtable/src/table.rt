@@ -1,7 +1,7 @@
 //! The table and its calls. The SELECT statements stand in `statements`, their rows in `reading`.
 ghost use Rattle.std.specs.Prelude.{◌≡◌, suc, ◌+◌, ◌≤◌, true, map, IfOk, OnOk, OnErr, Some, None, option_map, length, false};
 ghost use Rattle.std.specs.FinMap as fin;
-ghost use Rattle.history.specs.History.{fresh, last_revision, later, standing, state_at, up_to, written};
+ghost use Rattle.history.specs.History.{fresh, last_revision, later, current_objects, state_at, up_to, written};
 ghost use Rattle.history.specs.Kept.{IsPruned, between_marks, pruned, with_body};
 ghost use Rattle.history.specs.Page.{changes_within, listed, page, picked};
 ghost use Rattle.history.specs.Read.{change_of, entry_of, key_of, object_of, write_of};
@@ -103,7 +103,7 @@ impl Table {
     pub fn put(&mut self, revision: u64, key: &Key, body: Option<&str>) -> Result<(), Fault>
         requires next { revision ≡ suc self.old.current }
         requires fits { revision ≤ last_revision }
-        requires there { body ≡ None → fin.contains_key (standing self.old) (key_of key.now) ≡ true }
+        requires there { body ≡ None → fin.contains_key (current_objects self.old) (key_of key.now) ≡ true }
         ensures ok { OnOk result (self.new ≡ written self.old (key_of key.now) (option_map (λ b. b.now) body.entry)) }
         ensures err { OnErr result (self.new ≡ self.old) }
     {
@@ -120,7 +120,7 @@ impl Table {
     /// Adds several changes, as `put` of each in turn, from the next revision on: all of them, or none.
     pub fn put_all(&mut self, writes: &[Write]) -> Result<(), Fault>
         requires fit { self.old.current + length writes.now ≤ last_revision }
-        requires there { AreThere (standing self.old) (changes_by self.old.current (map write_of writes.now)) }
+        requires there { AreThere (current_objects self.old) (changes_by self.old.current (map write_of writes.now)) }
         ensures ok { OnOk result (self.new ≡ written_all self.old (map write_of writes.now)) }
         ensures err { OnErr result (self.new ≡ self.old) }
     {
@@ -132,7 +132,7 @@ impl Table {
 
     /// What stands under a key: what stood there at the current revision.
     pub fn latest(&mut self, key: &Key) -> Result<Option<Object>, Fault>
-        ensures ok { IfOk result (λ o. option_map object_of o ≡ fin.get (standing self.old) (key_of key.now)) }
+        ensures ok { IfOk result (λ o. option_map object_of o ≡ fin.get (current_objects self.old) (key_of key.now)) }
         ensures same { self.new ≡ self.old }
     {
         self.latest_at(key, self.current)

@@ -53,7 +53,7 @@ fn end_row<S: Alter>(
 }
 
 /// Ends the row that stands under a key, if one does.
-fn end_standing<S: Alter>(
+fn end_current_objects<S: Alter>(
     writing: &mut Transaction<'_, S>,
     key: &Key,
     revision: u64,
@@ -153,7 +153,7 @@ fn write_change<S: Alter>(
     ensures err { (start st : Stored) (cs : List Change) (top : ℕ) → IsRising 0 cs top → top < marks.current → st.spans ≡ spans_of cs → Amid start st (state S.Store writing.old.conn.now)
         → OnErr result (Undone start (state S.Store writing.new.conn.now)) }
 {
-    end_standing(writing, key, marks.current, body.is_none())?;
+    end_current_objects(writing, key, marks.current, body.is_none())?;
     begin_row(writing, marks.current, key, body)?;
     set_marks(writing, marks)?;
     Ok(())

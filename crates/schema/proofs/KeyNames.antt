@@ -166,9 +166,9 @@ below_all n m (k ∷ ks) lt h = (further n m k lt h.0, below_all n m ks lt h.1)
 -- ---- sorted names ascend exactly where they differ
 
 -- a name in front of those that it isn't above
-front_ascends : (n m : Name) (ms : List Name) → NotAbove n m → AllByRecursion (λ k. NotAbove m k) ms → ascend_from n (m ∷ ms) ≡ not (bytes_eq n m || list_any (bytes_eq n) ms) && ascend_from m ms
+prefix_ascends : (n m : Name) (ms : List Name) → NotAbove n m → AllByRecursion (λ k. NotAbove m k) ms → ascend_from n (m ∷ ms) ≡ not (bytes_eq n m || list_any (bytes_eq n) ms) && ascend_from m ms
 unfolding NotAbove
-front_ascends n m ms h hs = by_order (cmp n m) refl h
+prefix_ascends n m ms h hs = by_order (cmp n m) refl h
   where
     by_order : (o : Ordering) → cmp n m ≡ o → is_gt o ≡ false → is_lt (cmp n m) && ascend_from m ms ≡ not (bytes_eq n m || list_any (bytes_eq n) ms) && ascend_from m ms
     by_order Less is h =
@@ -188,7 +188,7 @@ put_ascends n m (k ∷ ks) lt hs h = by_test (λ lower. put_ascends n k ks lower
         ap (λ b. is_lt (cmp m k) && b) (later is) ∙ and_turned (is_lt (cmp m k)) (not (list_any (bytes_eq n) ks)) (ascend_from k ks)
         ∙ sym (ap (λ b. not (b || list_any (bytes_eq n) ks) && (is_lt (cmp m k) && ascend_from k ks)) (unlike n k Greater (backwards n k Less (is_less (cmp k n) is)) refl))
     by_test later false is =
-        ap (λ b. b && ascend_from n (k ∷ ks)) lt ∙ front_ascends n k ks (not_before n k is) h.0
+        ap (λ b. b && ascend_from n (k ∷ ks)) lt ∙ prefix_ascends n k ks (not_before n k is) h.0
         ∙ sym (ap (λ o. not (bytes_eq n k || list_any (bytes_eq n) ks) && (is_lt o && ascend_from k ks)) (further m n k (is_less (cmp m n) lt) (not_before n k is)))
 
 one_ascends : (n : Name) (ms : List Name) → Rises ms → ascend (put_name n ms) ≡ not (list_any (bytes_eq n) ms) && ascend ms
@@ -199,7 +199,7 @@ one_ascends n (m ∷ ms) h = by_test (is_lt (cmp m n)) refl
     by_test true is =
         put_ascends n m ms is h.0 h.1
         ∙ sym (ap (λ b. not (b || list_any (bytes_eq n) ms) && ascend_from m ms) (unlike n m Greater (backwards n m Less (is_less (cmp m n) is)) refl))
-    by_test false is = front_ascends n m ms (not_before n m is) h.0
+    by_test false is = prefix_ascends n m ms (not_before n m is) h.0
 
 pub differ_by : (all : List (String Global)) (name : String Global) (rest : List (String Global)) (b : Bool) → all ≡ name ∷ rest → list_any (bytes_eq (string_bytes name)) (names_in rest) ≡ b
     → ascend (names_in all) ≡ not b && ascend (names_in rest)

@@ -18,21 +18,21 @@ above k l lt = nat_list_cmp_total.antisymm l k ∙ ap ordering_reverse lt
 
 module _ (k l : List ℕ) (d e : Data) (lt : cmp k l ≡ Less) where
   -- the lower one in front of the upper one's place
-  in_front : (m : List ℕ) (x : Data) (ms : Members) → cmp k m ≡ Less → (ns : Members) → put l e (member m x ms) ≡ ns → member k d ns ≡ put l e (put k d (member m x ms))
-  in_front m x ms below ns is = ap (member k d) (sym is) ∙ sym (put_by l e k d (member m x ms) Greater (above k l lt)) ∙ ap (put l e) (sym (put_by k d m x ms Less below))
+  in_prefix : (m : List ℕ) (x : Data) (ms : Members) → cmp k m ≡ Less → (ns : Members) → put l e (member m x ms) ≡ ns → member k d ns ≡ put l e (put k d (member m x ms))
+  in_prefix m x ms below ns is = ap (member k d) (sym is) ∙ sym (put_by l e k d (member m x ms) Greater (above k l lt)) ∙ ap (put l e) (sym (put_by k d m x ms Less below))
 
   turned_at : (m : List ℕ) (x : Data) (ms : Members) → put k d (put l e ms) ≡ put l e (put k d ms) → (o : Ordering) → cmp l m ≡ o → (p : Ordering) → cmp k m ≡ p
       → put k d (put l e (member m x ms)) ≡ put l e (put k d (member m x ms))
   turned_at m x ms later Less is p at =
       let put_l = put_by l e m x ms Less is in
-      ap (put k d) put_l ∙ put_by k d l e (member m x ms) Less lt ∙ in_front m x ms (nat_list_cmp_total.trans k l m lt is) (member l e (member m x ms)) put_l
+      ap (put k d) put_l ∙ put_by k d l e (member m x ms) Less lt ∙ in_prefix m x ms (nat_list_cmp_total.trans k l m lt is) (member l e (member m x ms)) put_l
   turned_at m x ms later Equal is p at =
       let put_l = put_by l e m x ms Equal is in
       let below = ap (cmp k) (sym (slice_cmp-IsAntisymmetric nat_cmp-IsAntisymmetric l m is)) ∙ lt in
-      ap (put k d) put_l ∙ put_by k d m e ms Less below ∙ in_front m x ms below (member m e ms) put_l
+      ap (put k d) put_l ∙ put_by k d m e ms Less below ∙ in_prefix m x ms below (member m e ms) put_l
   turned_at m x ms later Greater is Less at =
       let put_l = put_by l e m x ms Greater is in
-      ap (put k d) put_l ∙ put_by k d m x (put l e ms) Less at ∙ in_front m x ms at (member m x (put l e ms)) put_l
+      ap (put k d) put_l ∙ put_by k d m x (put l e ms) Less at ∙ in_prefix m x ms at (member m x (put l e ms)) put_l
   turned_at m x ms later Greater is Equal at =
       ap (put k d) (put_by l e m x ms Greater is) ∙ put_by k d m x (put l e ms) Equal at ∙ sym (ap (put l e) (put_by k d m x ms Equal at) ∙ put_by l e m d ms Greater is)
   turned_at m x ms later Greater is Greater at =

@@ -9,7 +9,7 @@ use Rattle.fieldpath.specs.Elements as element
 use Rattle.schema.specs.Shape.{atomic, set, keyed, Shape, text, whole, truth, struct_of, map_of, list_of, Fields, no_fields, field, shape_at}
 use Rattle.schema.specs.Place.{at_end, by_field, fits, fit_keys, item_or, list_item, place_in_field, place_in_list, place_of}
 use Rattle.schema.specs.Place as place
-use Rattle.schema.specs.Steps.{Spot, value_of, set_item, map_item, is_leaf, step, step_item, step_value}
+use Rattle.schema.specs.Steps.{TypeRef, value_of, set_item, map_item, is_leaf, step, step_item, step_value}
 use Rattle.schema.specs.declared.place.Place.{Place}
 use Rattle.schema.specs.declared.place.Place.TheVariants.{SetItem}
 use Rattle.schema.proofs.Steps.{name_in, name-of}
@@ -19,26 +19,26 @@ abbrev pub beside : List (List ℕ) → Fields → List ℕ → PathTexts → Op
 beside names all f p = cond (list_any (bytes_eq f) names) None (place_in_field all f p)
 
 -- the place of a path from a spot on
-abbrev pub place_at : Spot → PathTexts → Option Place
+abbrev pub place_at : TypeRef → PathTexts → Option Place
 place_at (value_of s) p = place_of s p
 place_at set_item p = at_end p SetItem
 place_at (map_item names all) p = item_or p (by_field (beside names all) p)
 
-abbrev pub step_read : Spot → Result Element NoElement → Option Spot
-step_read spot (Ok e) = step spot e
-step_read spot (Err n) = None
+abbrev pub step_read : TypeRef → Result Element NoElement → Option TypeRef
+step_read type_ref (Ok e) = step type_ref e
+step_read type_ref (Err n) = None
 
 -- where the element leads whose text this is
-abbrev pub next : Spot → List ℕ → Option Spot
-next spot k = step_read spot (read_element k)
+abbrev pub next : TypeRef → List ℕ → Option TypeRef
+next type_ref k = step_read type_ref (read_element k)
 
-abbrev pub place_next : Option Spot → PathTexts → Option Place
+abbrev pub place_next : Option TypeRef → PathTexts → Option Place
 place_next None q = None
-place_next (Some spot) q = place_at spot q
+place_next (Some type_ref) q = place_at type_ref q
 
-nowhere : (spot : Spot) → ((e : Element) → step spot e ≡ None) → (r : Result Element NoElement) (q : PathTexts) → None ≡ place_next (step_read spot r) q
-nowhere spot none (Ok e) q = sym (ap (λ o. place_next o q) (none e))
-nowhere spot none (Err n) q = refl
+nowhere : (type_ref : TypeRef) → ((e : Element) → step type_ref e ≡ None) → (r : Result Element NoElement) (q : PathTexts) → None ≡ place_next (step_read type_ref r) q
+nowhere type_ref none (Ok e) q = sym (ap (λ o. place_next o q) (none e))
+nowhere type_ref none (Err n) q = refl
 
 field_place : (all : Fields) (f : List ℕ) (q : PathTexts) → place_in_field all f q ≡ place_next (option_map value_of (shape_at f all)) q
 field_place no_fields f q = refl
@@ -132,7 +132,7 @@ module _ (q : PathTexts) where
   item_step : (e : Element) → step set_item e ≡ None
   item_step e = refl
 
-  pub place-next : (spot : Spot) (k : List ℕ) → place_at spot (k ∷ q) ≡ place_next (next spot k) q
+  pub place-next : (type_ref : TypeRef) (k : List ℕ) → place_at type_ref (k ∷ q) ≡ place_next (next type_ref k) q
   place-next (value_of text) k = nowhere (value_of text) (no_step text refl) (read_element k) q
   place-next (value_of whole) k = nowhere (value_of whole) (no_step whole refl) (read_element k) q
   place-next (value_of truth) k = nowhere (value_of truth) (no_step truth refl) (read_element k) q

@@ -4,7 +4,7 @@ pub mod Shape
 pub mod Place
 pub mod KeyFields
 pub mod Steps
-pub mod Spots
+pub mod TypeRefs
 pub mod Lawful
 pub mod ObjectShape
 pub mod ObjectTest

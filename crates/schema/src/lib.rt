@@ -15,4 +15,4 @@ pub use among::is_in;
 pub use new_schema::NewSchema;
 pub use place::Place;
 pub use schema::{ListKind, Schema};
-pub use step::{Spot, field_at, is_key};
+pub use step::{TypeRef, field_at, is_key};

@@ -4,23 +4,23 @@ ghost use Rattle.std.specs.Prelude.{◌≡◌, false, IfSome, None, Some, map, o
 ghost use Rattle.std.specs.List.{list_all, list_any};
 ghost use Rattle.std.specs.Str.{bytes_eq};
 ghost use Rattle.fieldpath.specs.Elements.{field};
-ghost use Rattle.fieldpath.specs.Elems.{element};
+ghost use Rattle.fieldpath.specs.ElementViews.{element};
 ghost use Rattle.fieldpath.specs.Scalars.{key_fields, scalar};
 ghost use Rattle.schema.specs.KeyFields.{fits_key};
 ghost use Rattle.schema.specs.KeyNames.{names_in};
 ghost use Rattle.schema.specs.Lawful.{is_granular_struct};
 ghost use Rattle.schema.specs.Shape.{shape, fields_in, shape_at, struct_of};
 ghost use Rattle.schema.specs.Place.{fit_keys, fits, fits_some, place_of};
-ghost use Rattle.schema.specs.Spots.{spot};
+ghost use Rattle.schema.specs.TypeRefs.{type_ref};
 ghost use Rattle.schema.specs.Steps.{is_leaf, value_of, place_from, place_here, step, step_beside, step_field, step_item, step_key, step_scalar, step_value};
 
 use crate::place::Place;
 use crate::schema::{ListKind, Schema};
 use fieldpath::{Elem, Keys, Path, Scalar};
 
-/// Where a front of a path leads.
+/// Where a prefix of a path leads.
 #[derive(Clone, Copy)]
-pub enum Spot<'a> {
+pub enum TypeRef<'a> {
     /// To a value of this schema.
     Value(&'a Schema),
     /// To an item of a set; nothing stands below it.
@@ -88,11 +88,11 @@ fn fit_keys(names: &[String], fields: &[(String, Schema)], keys: &Keys) -> bool
     keys.len() == names.len() && fit_each(names, fields, keys)
 }
 
-fn field_spot<'a>(fields: &'a [(String, Schema)], name: &str) -> Option<Spot<'a>>
-    ensures { option_map spot result ≡ option_map value_of (shape_at name.now (fields_in fields.now)) }
+fn field_type_ref<'a>(fields: &'a [(String, Schema)], name: &str) -> Option<TypeRef<'a>>
+    ensures { option_map type_ref result ≡ option_map value_of (shape_at name.now (fields_in fields.now)) }
 {
     match field_at(fields, name) {
-        Some(inner) => Some(Spot::Value(inner)),
+        Some(inner) => Some(TypeRef::Value(inner)),
         None => None,
     }
 }
@@ -102,21 +102,21 @@ fn field_beside<'a>(
     fields: &'a [(String, Schema)],
     names: &'a [String],
     name: &str,
-) -> Option<Spot<'a>>
-    ensures { option_map spot result ≡ step_beside (names_in names.now) (fields_in fields.now) (field name.now) }
+) -> Option<TypeRef<'a>>
+    ensures { option_map type_ref result ≡ step_beside (names_in names.now) (fields_in fields.now) (field name.now) }
 {
     if is_key(names, name) {
         return None;
     }
-    field_spot(fields, name)
+    field_type_ref(fields, name)
 }
 
 fn step_beside<'a>(
     fields: &'a [(String, Schema)],
     names: &'a [String],
     elem: &Elem,
-) -> Option<Spot<'a>>
-    ensures { option_map spot result ≡ step_beside (names_in names.now) (fields_in fields.now) (element elem.now) }
+) -> Option<TypeRef<'a>>
+    ensures { option_map type_ref result ≡ step_beside (names_in names.now) (fields_in fields.now) (element elem.now) }
 {
     match elem {
         Elem::Field(name) => field_beside(fields, names, name.as_str()),
@@ -124,49 +124,49 @@ fn step_beside<'a>(
     }
 }
 
-impl<'a> Spot<'a> {
+impl<'a> TypeRef<'a> {
     /// Where one element more leads, if the schema has it there (Server-Side Apply, "Merge strategy").
-    pub fn step(self, elem: &Elem) -> Option<Spot<'a>>
-        ensures { option_map spot result ≡ step (spot self.entry) (element elem.now) }
+    pub fn step(self, elem: &Elem) -> Option<TypeRef<'a>>
+        ensures { option_map type_ref result ≡ step (type_ref self.entry) (element elem.now) }
     {
         match self {
-            Spot::Value(schema) => schema.step(elem),
-            Spot::SetItem => None,
-            Spot::MapItem(fields, names) => step_beside(fields, names, elem),
+            TypeRef::Value(schema) => schema.step(elem),
+            TypeRef::SetItem => None,
+            TypeRef::MapItem(fields, names) => step_beside(fields, names, elem),
         }
     }
 
     /// Where the field of this name leads: `step` without its element.
-    pub fn step_field(self, name: &str) -> Option<Spot<'a>>
-        ensures { option_map spot result ≡ step (spot self.entry) (field name.now) }
+    pub fn step_field(self, name: &str) -> Option<TypeRef<'a>>
+        ensures { option_map type_ref result ≡ step (type_ref self.entry) (field name.now) }
     {
         match self {
-            Spot::Value(schema) => schema.step_field(name),
-            Spot::SetItem => None,
-            Spot::MapItem(fields, names) => field_beside(fields, names, name),
+            TypeRef::Value(schema) => schema.step_field(name),
+            TypeRef::SetItem => None,
+            TypeRef::MapItem(fields, names) => field_beside(fields, names, name),
         }
     }
 
     /// The place of a path that ends here.
     pub fn place(self) -> Option<Place>
-        ensures { result ≡ place_here (spot self.entry) }
+        ensures { result ≡ place_here (type_ref self.entry) }
     {
         match self {
-            Spot::Value(schema) => {
+            TypeRef::Value(schema) => {
                 if schema.is_leaf() {
                     Some(Place::Leaf)
                 } else {
                     None
                 }
             }
-            Spot::SetItem => Some(Place::SetItem),
-            Spot::MapItem(_, _) => Some(Place::MapItem),
+            TypeRef::SetItem => Some(Place::SetItem),
+            TypeRef::MapItem(_, _) => Some(Place::MapItem),
         }
     }
 }
 
-fn place_from(here: Spot<'_>, elems: &[Elem]) -> Option<Place>
-    ensures { result ≡ place_from (Some (spot here.entry)) (map element elems.now) }
+fn place_from(here: TypeRef<'_>, elems: &[Elem]) -> Option<Place>
+    ensures { result ≡ place_from (Some (type_ref here.entry)) (map element elems.now) }
 {
     let Some((elem, rest)) = elems.split_first() else {
         return here.place();
@@ -218,33 +218,33 @@ impl Schema {
         }
     }
 
-    fn step_field(&self, name: &str) -> Option<Spot<'_>>
-        ensures { option_map spot result ≡ step_field (shape self.now) name.now }
+    fn step_field(&self, name: &str) -> Option<TypeRef<'_>>
+        ensures { option_map type_ref result ≡ step_field (shape self.now) name.now }
     {
         match self {
             Schema::Struct(fields, is_atomic) => {
                 if *is_atomic {
                     return None;
                 }
-                field_spot(fields, name)
+                field_type_ref(fields, name)
             }
             Schema::MapOf(inner, is_atomic) => {
                 if *is_atomic {
                     return None;
                 }
-                Some(Spot::Value(inner))
+                Some(TypeRef::Value(inner))
             }
             _ => None,
         }
     }
 
-    fn step_item<'a>(&'a self, names: &'a [String], keys: &Keys) -> Option<Spot<'a>>
-        ensures { option_map spot result ≡ step_item (names_in names.now) (shape self.now) keys.now }
+    fn step_item<'a>(&'a self, names: &'a [String], keys: &Keys) -> Option<TypeRef<'a>>
+        ensures { option_map type_ref result ≡ step_item (names_in names.now) (shape self.now) keys.now }
     {
         match self {
             Schema::Struct(fields, _) => {
                 if fit_keys(names, fields, keys) {
-                    Some(Spot::MapItem(fields, names))
+                    Some(TypeRef::MapItem(fields, names))
                 } else {
                     None
                 }
@@ -253,8 +253,8 @@ impl Schema {
         }
     }
 
-    fn step_key(&self, keys: &Keys) -> Option<Spot<'_>>
-        ensures { option_map spot result ≡ step_key (shape self.now) keys.now }
+    fn step_key(&self, keys: &Keys) -> Option<TypeRef<'_>>
+        ensures { option_map type_ref result ≡ step_key (shape self.now) keys.now }
     {
         match self {
             Schema::List(inner, kind) => match kind {
@@ -265,14 +265,14 @@ impl Schema {
         }
     }
 
-    fn step_scalar(&self, value: &Scalar) -> Option<Spot<'_>>
-        ensures { option_map spot result ≡ step_scalar (shape self.now) (scalar value.now) }
+    fn step_scalar(&self, value: &Scalar) -> Option<TypeRef<'_>>
+        ensures { option_map type_ref result ≡ step_scalar (shape self.now) (scalar value.now) }
     {
         match self {
             Schema::List(inner, kind) => match kind {
                 ListKind::Set => {
                     if inner.fits(value) {
-                        Some(Spot::SetItem)
+                        Some(TypeRef::SetItem)
                     } else {
                         None
                     }
@@ -283,8 +283,8 @@ impl Schema {
         }
     }
 
-    fn step(&self, elem: &Elem) -> Option<Spot<'_>>
-        ensures { option_map spot result ≡ step_value (shape self.now) (element elem.now) }
+    fn step(&self, elem: &Elem) -> Option<TypeRef<'_>>
+        ensures { option_map type_ref result ≡ step_value (shape self.now) (element elem.now) }
     {
         match elem {
             Elem::Field(name) => self.step_field(name.as_str()),
@@ -297,6 +297,6 @@ impl Schema {
     pub fn place(&self, path: &Path) -> Option<Place>
         ensures { result ≡ place_of (shape self.now) path.now }
     {
-        place_from(Spot::Value(self), path.elems())
+        place_from(TypeRef::Value(self), path.elems())
     }
 }

@@ -142,7 +142,7 @@ fn played_with(
     played_through(rt.alloc(), events, &FailingNet { rt, fate })
 }
 
-/// With one write less than it needs a play has written a front, and tells that the writer failed.
+/// With one write less than it needs a play has written a prefix, and tells that the writer failed.
 #[test]
 fn output_fails_at_each_write(rt: HostRuntime) -> Result<(), Fail> {
     let alloc = rt.alloc();
@@ -211,7 +211,7 @@ fn sockets_fail_at_each_call(rt: HostRuntime) -> Result<(), Fail> {
 
 /// Bytes that arrive otherwise than they were written are a fault of the link.
 #[test]
-fn garbled_bytes_are_told(rt: HostRuntime) -> Result<(), Fail> {
+fn garbled_bytes_are_reported(rt: HostRuntime) -> Result<(), Fail> {
     let events = read_script(rt.alloc(), SCRIPT)?;
     let (ended, taken) = played_with(&rt, &events, &Fate::new(CALLS, true))?;
     match ended {

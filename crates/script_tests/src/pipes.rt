@@ -230,7 +230,7 @@ fn lines_end_where_the_reader_does(rt: HostRuntime) -> Result<(), Fail> {
     Ok(())
 }
 
-/// With room for some bytes a front is printed, and the fault is the output's.
+/// With room for some bytes a prefix is printed, and the fault is the output's.
 #[test]
 fn output_fails_at_each_byte(rt: HostRuntime) -> Result<(), Fail> {
     let lines = b"{\"open\":1}\n{\"open\":1}\n";
@@ -249,7 +249,7 @@ fn output_fails_at_each_byte(rt: HostRuntime) -> Result<(), Fail> {
 
 /// Settings that can't be had are told before a line is read.
 #[test]
-fn settings_are_told_first(rt: HostRuntime) -> Result<(), Fail> {
+fn settings_are_reported_first(rt: HostRuntime) -> Result<(), Fail> {
     let mut asked = options()?;
     asked.page = 0;
     match piped(rt.alloc(), &asked, b"x\n", usize::MAX)? {

@@ -3,7 +3,7 @@ use Rattle.std.proofs.Common.{◌≡◌, ◌∙◌, ℕ, List, [], Result, Ok, E
 use Rattle.std.specs.Prelude.{◌⊎◌, IfErr, OnErr}
 use Rattle.std.specs.Result.{IsErrAnd}
 use Rattle.api_types.specs.TypesFile.{ServedShape}
-use Rattle.world.specs.Faults as worlds
+use Rattle.world.specs.FaultViews as worlds
 use Rattle.world.specs.declared.fault.WorldFault.{WorldFault}
 use Rattle.world.specs.declared.fault.WorldFault.TheVariants as stopped
 use Rattle.world_laws.specs.Tasks.{RunSettings, settings_fault}
@@ -13,7 +13,7 @@ use Rattle.scripts.specs.Parts.{IsOfOutput}
 use Rattle.scripts.specs.Piped.{EndsPlaying, IsOfPlay}
 use Rattle.scripts.specs.Plays.{Answers, AnswersBy, index_names, replay_fault_of}
 use Rattle.scripts.specs.Script.{IsFirstBad}
-use Rattle.scripts.specs.Statuses.{replay_fault_told, script_fault_told}
+use Rattle.scripts.specs.Statuses.{replay_fault_reported, script_fault_reported}
 use Rattle.scripts.specs.declared.line_fault.LineFault.{LineFault}
 use Rattle.scripts.specs.declared.program_fault.ProgramFault.{ProgramFault}
 use Rattle.scripts.specs.declared.program_fault.ProgramFault.TheVariants as fault
@@ -56,9 +56,9 @@ run_spares_link (Ok x) f given isnt is = absurd given
 run_spares_link (Err e) f given isnt is = run_blames f isnt (sym given ∙ ap replay_error is)
 
 -- out of memory is told of no settings
-pub answers_starved : {T : Type 0} (r : Result T ReplayFault) (number : Option ℕ) → IsErrAnd r (λ e. e ≡ replay.Memory) → Answers number r
-answers_starved (Ok x) number given = absurd given
-answers_starved (Err e) number given = subst (AnswersBy number) (sym given) tt
+pub answers_out_of_memory : {T : Type 0} (r : Result T ReplayFault) (number : Option ℕ) → IsErrAnd r (λ e. e ≡ replay.Memory) → Answers number r
+answers_out_of_memory (Ok x) number given = absurd given
+answers_out_of_memory (Err e) number given = subst (AnswersBy number) (sym given) tt
 
 -- ---- printing
 
@@ -88,17 +88,17 @@ module _ (types : List ServedShape) (asked : Option RunSettings) (lines : List (
   ends_as (Ok x) f given is = absurd given
   ends_as (Err x) f given is = subst (EndsBy types asked lines) (sym given) is
 
-  pub ends_reading : (f : ScriptFault) → ((n : ℕ) (why : LineFault) → f ≡ script.BadEvent n why → IsFirstBad lines n) → EndsBy types asked lines (script_fault_told f)
+  pub ends_reading : (f : ScriptFault) → ((n : ℕ) (why : LineFault) → f ≡ script.BadEvent n why → IsFirstBad lines n) → EndsBy types asked lines (script_fault_reported f)
   ends_reading (script.BadEvent n why) bad = bad n why refl
   ends_reading script.Memory bad = tt
 
   pub ends_asking : (f : ProgramFault) → IsGood lines → (f ≡ fault.Run run.Memory) ⊎ ((f ≡ fault.NoType) × (asked ≡ None)) → EndsBy types asked lines f
   ends_asking f good is = elim is [
-    | inl starved ↦ subst (EndsBy types asked lines) (sym starved) tt
+    | inl out_of_memory ↦ subst (EndsBy types asked lines) (sym out_of_memory) tt
     | inr unserved ↦ subst (EndsBy types asked lines) (sym unserved.0) (good, unserved.1)
   ]
 
-  pub ends_playing : (f : ReplayFault) (s : RunSettings) → IsGood lines → asked ≡ Some s → AnswersBy (settings_fault types index_names s) f → EndsBy types asked lines (replay_fault_told f)
+  pub ends_playing : (f : ReplayFault) (s : RunSettings) → IsGood lines → asked ≡ Some s → AnswersBy (settings_fault types index_names s) f → EndsBy types asked lines (replay_fault_reported f)
   ends_playing replay.Memory s good are answers = tt
   ends_playing replay.Store s good are answers = (good, (s, are, answers))
   ends_playing (replay.Settings n) s good are answers = (good, (s, are, answers))
@@ -115,13 +115,13 @@ pub spares_link : {T : Type 0} (r : Result T ProgramFault) (f : ProgramFault) �
 spares_link (Ok x) f given isnt is = absurd given
 spares_link (Err e) f given isnt is = isnt (sym given ∙ ap program_error is)
 
-pub reading_spares_link : (f : ScriptFault) → script_fault_told f ≡ fault.Link → ⊥
+pub reading_spares_link : (f : ScriptFault) → script_fault_reported f ≡ fault.Link → ⊥
 reading_spares_link (script.BadEvent n why) is = cc
 reading_spares_link script.Memory is = cc
 
 pub asking_spares_link : {X : Type 0} (f : ProgramFault) → (f ≡ fault.Run run.Memory) ⊎ ((f ≡ fault.NoType) × X) → f ≡ fault.Link → ⊥
 asking_spares_link f why is = elim why [
-  | inl starved ↦ bad (sym starved ∙ is)
+  | inl out_of_memory ↦ bad (sym out_of_memory ∙ is)
   | inr unserved ↦ bad_type (sym unserved.0 ∙ is)
 ]
   where
@@ -131,7 +131,7 @@ asking_spares_link f why is = elim why [
     bad_type : fault.NoType ≡ fault.Link → ⊥
     bad_type e = cc
 
-pub playing_spares_link : (f : ReplayFault) → (f ≡ replay.Link → ⊥) → replay_fault_told f ≡ fault.Link → ⊥
+pub playing_spares_link : (f : ReplayFault) → (f ≡ replay.Link → ⊥) → replay_fault_reported f ≡ fault.Link → ⊥
 playing_spares_link replay.Memory isnt is = cc
 playing_spares_link replay.Store isnt is = cc
 playing_spares_link (replay.Settings n) isnt is = cc
@@ -140,7 +140,7 @@ playing_spares_link (replay.Write e) isnt is = cc
 
 -- ---- lines that are answered one by one
 
-play_fails : (f : ReplayFault) → AnswersBy None f → IsOfPlay (replay_fault_told f)
+play_fails : (f : ReplayFault) → AnswersBy None f → IsOfPlay (replay_fault_reported f)
 play_fails replay.Memory is = tt
 play_fails replay.Store is = tt
 play_fails (replay.Settings n) is = absurd cc
@@ -148,7 +148,7 @@ play_fails replay.Link is = tt
 play_fails (replay.Write e) is = tt
 
 -- what ends a play of settings without a fault
-pub fails_playing : {A : Type 0} (r : Result A ProgramFault) (f : ReplayFault) → IsErrAnd r (λ x. x ≡ replay_fault_told f) → AnswersBy None f → EndsPlaying r
+pub fails_playing : {A : Type 0} (r : Result A ProgramFault) (f : ReplayFault) → IsErrAnd r (λ x. x ≡ replay_fault_reported f) → AnswersBy None f → EndsPlaying r
 fails_playing (Ok x) f given is = tt
 fails_playing (Err e) f given is = subst IsOfPlay (sym given) (play_fails f is)
 

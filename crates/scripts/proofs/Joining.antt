@@ -69,7 +69,7 @@ unmoved task n k w mid line lines first rest v none count same silent (events, r
 
 moved : StepsJoin → (task : Task) (n k : ℕ) (w mid : World) (line : List ℕ) (lines : List (List ℕ)) (first rest : List Part) (v : World) (e : WorldEvent) (why : List ℕ)
     → IsEventLine line e → Steps task w e mid → first ≡ event_parts task (suc n) w e mid why → k ≡ suc n → Joins task k mid lines rest v → Joins task n w (line ∷ lines) (first ++ rest) v
-moved law task n k w mid line lines first rest v e why says steps told count (events, reports, have, runs, joined) = (
+moved law task n k w mid line lines first rest v e why says steps emitted count (events, reports, have, runs, joined) = (
   e ∷ events,
   laws.reports_after (suc n) w mid ++ reports,
   inr (e, events, says, have, refl),
@@ -78,7 +78,7 @@ moved law task n k w mid line lines first rest v e why says steps told count (ev
       let before = written_on w.hub.connections id in
       joined id ∙ ap (λ (xs : List ℕ). xs ++ flat_map (printed_on id) rest) (law task w e mid steps id)
       ∙ append_assoc before (joined_on id (added w.hub mid.hub)) (flat_map (printed_on id) rest)
-      ∙ ap (λ (xs : List ℕ). before ++ xs) (sym (flat_map-append (printed_on id) first rest ∙ ap (λ (xs : List ℕ). xs ++ flat_map (printed_on id) rest) (ap (flat_map (printed_on id)) told ∙ event_joined id task (suc n) w e mid why)))),
+      ∙ ap (λ (xs : List ℕ). before ++ xs) (sym (flat_map-append (printed_on id) first rest ∙ ap (λ (xs : List ℕ). xs ++ flat_map (printed_on id) rest) (ap (flat_map (printed_on id)) emitted ∙ event_joined id task (suc n) w e mid why)))),
 )
 
 one_joined : StepsJoin → (task : Task) (n k : ℕ) (w mid : World) (line : List ℕ) (lines : List (List ℕ)) (first rest : List Part) (v : World)
@@ -86,9 +86,9 @@ one_joined : StepsJoin → (task : Task) (n k : ℕ) (w mid : World) (line : Lis
 one_joined law task n k w mid line lines first rest v (inl ignores) more =
     unmoved task n k w mid line lines first rest v (inl ignores.empty) ignores.count ignores.same (λ id. ap (flat_map (printed_on id)) ignores.silent) more
 one_joined law task n k w mid line lines first rest v (inr (inl rejects)) more =
-    unmoved task n k w mid line lines first rest v (inr rejects.is_bad) rejects.count rejects.same (λ id. ap (flat_map (printed_on id)) rejects.told) more
+    unmoved task n k w mid line lines first rest v (inr rejects.is_bad) rejects.count rejects.same (λ id. ap (flat_map (printed_on id)) rejects.emitted) more
 one_joined law task n k w mid line lines first rest v (inr (inr takes)) more =
-    moved law task n k w mid line lines first rest v takes.event takes.why takes.says takes.steps takes.told takes.count more
+    moved law task n k w mid line lines first rest v takes.event takes.why takes.says takes.steps takes.emitted takes.count more
 
 pub all_joined : StepsJoin → (task : Task) (n : ℕ) (w : World) (lines : List (List ℕ)) (parts : List Part) (m : ℕ) (v : World) → Converses task n w lines parts m v → Joins task n w lines parts v
 all_joined law task n w [] parts m v (none, count, same) = (

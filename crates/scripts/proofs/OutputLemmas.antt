@@ -7,25 +7,25 @@ use Rattle.std.proofs.lemmas.List.Elements.{filter-append}
 use Rattle.serde_json.specs.Data.{object}
 use Rattle.serde_json.specs.Written.{has_float, members_have_float}
 use Rattle.summary.specs.Apply.{count_members}
-use Rattle.world.specs.Seen.{reply_seen}
+use Rattle.world.specs.Views.{reply_seen}
 use Rattle.world.specs.declared.trace.Report.{Report}
 use Rattle.world.specs.declared.trace.Trace.{Trace}
-use Rattle.scripts.specs.Output.{Part, Prints, PrintsFront, Tells, connections_in, parts_of, replies_in, reported}
+use Rattle.scripts.specs.Output.{Part, Prints, PrintsPrefix, WritesPart, connections_in, parts_of, replies_in, reported}
 
 -- one part more
-pub prints_more : (ps : List Part) (p : Part) (text more : List ℕ) → Prints ps text → Tells p more → Prints (ps ++ p ∷ []) (text ++ more)
-prints_more [] p text more is_empty tells = (more, [], tells, refl, ap (λ x. x ++ more) is_empty ∙ sym (append-nil more))
-prints_more (d ∷ ps) p text more (first, rest, told, printed, is) tells =
-    (first, rest ++ more, told, prints_more ps p rest more printed tells, ap (λ x. x ++ more) is ∙ append_assoc first rest more)
+pub prints_more : (ps : List Part) (p : Part) (text more : List ℕ) → Prints ps text → WritesPart p more → Prints (ps ++ p ∷ []) (text ++ more)
+prints_more [] p text more is_empty writes = (more, [], writes, refl, ap (λ x. x ++ more) is_empty ∙ sym (append-nil more))
+prints_more (d ∷ ps) p text more (first, rest, emitted, printed, is) writes =
+    (first, rest ++ more, emitted, prints_more ps p rest more printed writes, ap (λ x. x ++ more) is ∙ append_assoc first rest more)
 
 -- the first i of them
-pub front_at : (parts : List Part) (i : ℕ) (text : List ℕ) → Prints (take i parts) text → PrintsFront parts text
-front_at parts i text printed = (take i parts, drop i parts, text, [], sym (take-append-drop i parts), printed, sym (append-nil text))
+pub prefix_at : (parts : List Part) (i : ℕ) (text : List ℕ) → Prints (take i parts) text → PrintsPrefix parts text
+prefix_at parts i text printed = (take i parts, drop i parts, text, [], sym (take-append-drop i parts), printed, sym (append-nil text))
 
 -- and some of the text of the next one
-pub front_within : (parts : List Part) (i : ℕ) (text told rest : List ℕ) → Prints (take i parts) (text ++ (told ++ rest)) → PrintsFront parts (text ++ told)
-front_within parts i text told rest printed =
-    (take i parts, drop i parts, text ++ (told ++ rest), rest, sym (take-append-drop i parts), printed, sym (append_assoc text told rest))
+pub prefix_within : (parts : List Part) (i : ℕ) (text emitted rest : List ℕ) → Prints (take i parts) (text ++ (emitted ++ rest)) → PrintsPrefix parts (text ++ emitted)
+prefix_within parts i text emitted rest printed =
+    (take i parts, drop i parts, text ++ (emitted ++ rest), rest, sym (take-append-drop i parts), printed, sym (append_assoc text emitted rest))
 
 -- the line of a connection, and the bytes after it
 pub joined : (a b c bytes : List ℕ) → (a ++ (b ++ (32 ∷ (c ++ 10 ∷ []))) ++ bytes) ++ 10 ∷ [] ≡ a ++ (b ++ (32 ∷ (c ++ (10 ∷ (bytes ++ 10 ∷ [])))))

@@ -73,14 +73,14 @@ fails_by name cmd is words r known = subst (λ a. FailsBy (fault_of a words) r) 
 -- ---- what is refused
 
 -- a fault that is handed on
-pub told : {A : Type 0} (kinds : Kinds) (rows : List Row) (r : Result A ProgramFault) (f : ProgramFault) → IsErrAnd r (λ x. x ≡ f) → RefusedBy {A = A} kinds rows (Err f) → RefusedBy kinds rows r
-told kinds rows (Ok x) f h is = absurd h
-told {A} kinds rows (Err x) f h is = subst (λ (y : ProgramFault). RefusedBy {A = A} kinds rows (Err y)) (sym h) is
+pub emitted : {A : Type 0} (kinds : Kinds) (rows : List Row) (r : Result A ProgramFault) (f : ProgramFault) → IsErrAnd r (λ x. x ≡ f) → RefusedBy {A = A} kinds rows (Err f) → RefusedBy kinds rows r
+emitted kinds rows (Ok x) f h is = absurd h
+emitted {A} kinds rows (Err x) f h is = subst (λ (y : ProgramFault). RefusedBy {A = A} kinds rows (Err y)) (sym h) is
 
 -- one of clap
-pub told_by_clap : {A : Type 0} (kinds : Kinds) (rows : List Row) (r : Result A ProgramFault) (e : Error) → IsErrAnd r (λ x. (x ≡ Run Memory) ⊎ (x ≡ Run (Arguments e))) → HasKind kinds e → RefusedBy kinds rows r
-told_by_clap kinds rows (Ok x) e h is = absurd h
-told_by_clap {A} kinds rows (Err x) e h is = elim h [
+pub emitted_by_clap : {A : Type 0} (kinds : Kinds) (rows : List Row) (r : Result A ProgramFault) (e : Error) → IsErrAnd r (λ x. (x ≡ Run Memory) ⊎ (x ≡ Run (Arguments e))) → HasKind kinds e → RefusedBy kinds rows r
+emitted_by_clap kinds rows (Ok x) e h is = absurd h
+emitted_by_clap {A} kinds rows (Err x) e h is = elim h [
   | inl m ↦ subst (λ (y : ProgramFault). RefusedBy {A = A} kinds rows (Err y)) (sym m) tt
   | inr a ↦ subst (λ (y : ProgramFault). RefusedBy {A = A} kinds rows (Err y)) (sym a) is
 ]
@@ -89,7 +89,7 @@ told_by_clap {A} kinds rows (Err x) e h is = elim h [
 pub page_refused : {A : Type 0} (kinds : Kinds) (rows : List Row) (r : Result A ProgramFault) (f : RunFault) (option : NumberOption) (first : Option Text) → IsErrAnd r (λ x. x ≡ Run f) → f ≡ Number option → kinds ≡ []
     → first ≡ first_of (codes "page") rows → ((n : ℕ) → IsNumberIn (Some default_page) first 0 4294967295 n → ⊥) → RefusedBy kinds rows r
 page_refused kinds rows r f option first h is none same refused =
-    told kinds rows r (Run (Number option)) (subst (λ (x : RunFault). IsErrAnd r (λ y. y ≡ Run x)) is h)
+    emitted kinds rows r (Run (Number option)) (subst (λ (x : RunFault). IsErrAnd r (λ y. y ≡ Run x)) is h)
     (none, λ n number most. refused n (subst (λ (o : Option Text). IsNumberIn (Some default_page) o 0 4294967295 n) (sym same) (number, low n, most)))
   where
     low : (n : ℕ) → 0 ≤ n
@@ -99,4 +99,4 @@ page_refused kinds rows r f option first h is none same refused =
 pub type_refused : {A : Type 0} (kinds : Kinds) (rows : List Row) (r : Result A ProgramFault) (f : ProgramFault) (first : Option Text) → IsErrAnd r (λ x. x ≡ f) → (f ≡ Form) × (resource_in (unwrap_or first default_type) ≡ None)
     → kinds ≡ [] → first ≡ first_of (codes "type") rows → RefusedBy kinds rows r
 type_refused kinds rows r f first h is none same =
-    told kinds rows r Form (subst (λ (x : ProgramFault). IsErrAnd r (λ y. y ≡ x)) is.0 h) (none, ap (λ o. resource_in (unwrap_or o default_type)) (sym same) ∙ is.1)
+    emitted kinds rows r Form (subst (λ (x : ProgramFault). IsErrAnd r (λ y. y ≡ x)) is.0 h) (none, ap (λ o. resource_in (unwrap_or o default_type)) (sym same) ∙ is.1)

@@ -4,7 +4,7 @@ use Rattle.programs.specs.declared.run_fault.RunFault.TheVariants as run
 use Rattle.api_types.specs.TypesFile.{ServedShape, type_number}
 use Rattle.world_laws.specs.Tasks.{RunSettings, settings_fault}
 use Rattle.world_laws.specs.World.{WorldEvent}
-use Rattle.scripts.specs.Plays.{Plays, PlaysFront, index_names}
+use Rattle.scripts.specs.Plays.{Plays, PlaysPrefix, index_names}
 use Rattle.scripts.specs.Script.{AreEvents, IsFirstBad}
 use Rattle.scripts.specs.declared.arguments.ClientOptions.{ClientOptions}
 use Rattle.scripts.specs.declared.program_fault.ProgramFault.{ProgramFault}
@@ -48,7 +48,7 @@ Ends types asked lines (Err e) = EndsBy types asked lines e
 abbrev pub PlaysAsked : List ServedShape → Option RunSettings → List (List ℕ) → List ℕ → Type 0
 PlaysAsked types asked lines text = (events : List WorldEvent) × (settings : RunSettings) × AreEvents lines events × (asked ≡ Some settings) × Plays types settings events text
 
--- nothing is printed, or a front of that
-abbrev pub PlaysFrontAsked : List ServedShape → Option RunSettings → List (List ℕ) → List ℕ → Type 0
-PlaysFrontAsked types asked lines text =
-    (text ≡ []) ⊎ ((events : List WorldEvent) × (settings : RunSettings) × AreEvents lines events × (asked ≡ Some settings) × PlaysFront types settings events text)
+-- nothing is printed, or a prefix of that
+abbrev pub PlaysPrefixAsked : List ServedShape → Option RunSettings → List (List ℕ) → List ℕ → Type 0
+PlaysPrefixAsked types asked lines text =
+    (text ≡ []) ⊎ ((events : List WorldEvent) × (settings : RunSettings) × AreEvents lines events × (asked ≡ Some settings) × PlaysPrefix types settings events text)

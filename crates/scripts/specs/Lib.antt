@@ -7,5 +7,5 @@ pub mod Plays
 pub mod Requests
 pub mod Script
 pub mod ScriptSteps
-pub mod Seen
+pub mod Views
 pub mod Statuses

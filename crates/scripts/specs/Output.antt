@@ -12,14 +12,14 @@ use Rattle.summary.specs.Apply.{count_members}
 use Rattle.summary.specs.Summary.{counts_in}
 use Rattle.wireclient.specs.Reads as reads
 use Rattle.wireclient.specs.Reply as reply
-use Rattle.world.specs.Seen.{reply_seen}
+use Rattle.world.specs.Views.{reply_seen}
 use Rattle.world.specs.declared.trace.Report.{Report}
 use Rattle.world.specs.declared.trace.Trace.{Trace}
 
 -- ---- the text of each part
 
 -- of a reply's head the status and a blank, the body, and at its end a line feed
-abbrev pub words_of : reply.Told → List ℕ
+abbrev pub words_of : reply.ReplyItem → List ℕ
 words_of (reply.head status) = decimal status ++ 32 ∷ []
 words_of (reply.whole body) = body
 words_of reply.end = 10 ∷ []
@@ -27,8 +27,8 @@ words_of (reply.line text) = []
 words_of reply.malformed = []
 
 -- the text tells the reply that these bytes are, as a client reads it
-abbrev pub TellsReply : List ℕ → List ℕ → Type 0
-TellsReply bytes text = (items : List reply.Told) × reads.Items bytes items × (text ≡ flat_map words_of items)
+abbrev pub WritesReply : List ℕ → List ℕ → Type 0
+WritesReply bytes text = (items : List reply.ReplyItem) × reads.Items bytes items × (text ≡ flat_map words_of items)
 
 -- a connection's id, how many bytes were written on it, and these
 abbrev pub connection_text : ℕ → List ℕ → List ℕ
@@ -50,10 +50,10 @@ pub data Part : Type 0 where
   connected : ℕ → List ℕ → Part
   reported : Report → Part
 
-abbrev pub Tells : Part → List ℕ → Type 0
-Tells (replied bytes) text = TellsReply bytes text
-Tells (connected id bytes) text = text ≡ connection_text id bytes
-Tells (reported r) text = text ≡ report_text r
+abbrev pub WritesPart : Part → List ℕ → Type 0
+WritesPart (replied bytes) text = WritesReply bytes text
+WritesPart (connected id bytes) text = text ≡ connection_text id bytes
+WritesPart (reported r) text = text ≡ report_text r
 
 -- whether a connection is one of these
 abbrev pub is_one_of : List ℕ → ℕ → Bool
@@ -75,8 +75,8 @@ parts_of t = replies_in t.requested.items (map reply_seen t.written.items) ++ (c
 -- the text tells these parts in turn
 abbrev pub Prints : List Part → List ℕ → Type 0
 Prints [] text = text ≡ []
-Prints (p ∷ ps) text = (first : List ℕ) × (rest : List ℕ) × Tells p first × Prints ps rest × (text ≡ first ++ rest)
+Prints (p ∷ ps) text = (first : List ℕ) × (rest : List ℕ) × WritesPart p first × Prints ps rest × (text ≡ first ++ rest)
 
--- the text is a front of what tells the first of these parts
-abbrev pub PrintsFront : List Part → List ℕ → Type 0
-PrintsFront parts text = (first : List Part) × (rest : List Part) × (whole : List ℕ) × (more : List ℕ) × (parts ≡ first ++ rest) × Prints first whole × (whole ≡ text ++ more)
+-- the text is a prefix of what tells the first of these parts
+abbrev pub PrintsPrefix : List Part → List ℕ → Type 0
+PrintsPrefix parts text = (first : List Part) × (rest : List Part) × (whole : List ℕ) × (more : List ℕ) × (parts ≡ first ++ rest) × Prints first whole × (whole ≡ text ++ more)

@@ -19,8 +19,8 @@ use Rattle.summary.specs.Summary.{counts_in}
 use Rattle.world_laws.specs.Reports as laws
 use Rattle.world_laws.specs.Tasks.{IsTask, RunSettings, Task}
 use Rattle.world_laws.specs.World.{Steps, World, WorldEvent, start}
-use Rattle.world.specs.Seen.{reply_seen}
-use Rattle.world.specs.Standing.{WorldStands}
+use Rattle.world.specs.Views.{reply_seen}
+use Rattle.world.specs.Represents.{WorldRepresents}
 use Rattle.world.specs.Stepping.{added, ended_since, opened_by, refusal_of}
 use Rattle.world.specs.declared.refusal.Refusal as refusals
 use Rattle.world.specs.declared.step.Step.{Step}
@@ -128,7 +128,7 @@ pub record Rejects (n : ℕ) (w : World) (line : List ℕ) (parts : List Part) (
   pub filled : line ≢ []
   pub is_bad : IsBad line
   pub why : List ℕ
-  pub told : parts ≡ bad n why ∷ []
+  pub emitted : parts ≡ bad n why ∷ []
   pub count : m ≡ n
   pub same : v ≡ w
 
@@ -138,7 +138,7 @@ pub record Takes (task : Task) (n : ℕ) (w : World) (line : List ℕ) (parts : 
   pub says : IsEventLine line event
   pub steps : Steps task w event v
   pub why : List ℕ
-  pub told : parts ≡ event_parts task (suc n) w event v why
+  pub emitted : parts ≡ event_parts task (suc n) w event v why
   pub count : m ≡ suc n
 
 -- the answer to a line before which there were n events: its parts, how many events there are then, and where they led
@@ -163,32 +163,32 @@ AreLines bytes [] = bytes ≡ []
 AreLines bytes (line ∷ lines) = (piece : List ℕ) × (rest : List ℕ) × IsPiece piece line × AreLines rest lines × (bytes ≡ piece ++ rest)
 
 -- these bytes are lines, the text is the answers to them, and this is how many events there were and where they led
-pub record IsAnswered (task : Task) (w : World) (heard text : List ℕ) (m : ℕ) (v : World) : Type 0 where
+pub record IsAnswered (task : Task) (w : World) (received text : List ℕ) (m : ℕ) (v : World) : Type 0 where
   pub lines : List (List ℕ)
   pub parts : List Part
-  pub cut : AreLines heard lines
+  pub cut : AreLines received lines
   pub converses : Converses task 0 w lines parts m v
-  pub told : text ≡ flat_map part_text parts
+  pub emitted : text ≡ flat_map part_text parts
 
--- the first of these bytes are lines, and the text is a front of the answers to them
-pub record IsAnsweredFront (task : Task) (w : World) (heard text : List ℕ) : Type 0 where
+-- the first of these bytes are lines, and the text is a prefix of the answers to them
+pub record IsAnsweredPrefix (task : Task) (w : World) (received text : List ℕ) : Type 0 where
   pub answered : List ℕ
   pub unanswered : List ℕ
   pub more : List ℕ
   pub count : ℕ
   pub end : World
-  pub split : heard ≡ answered ++ unanswered
+  pub split : received ≡ answered ++ unanswered
   pub answers : IsAnswered task w answered (text ++ more) count end
 
 -- the lines are answered from the start of a run with these settings
 abbrev pub PipesAsked : List ServedShape → Option RunSettings → List ℕ → List ℕ → Type 0
-PipesAsked types asked heard text =
-    (settings : RunSettings) × (task : Task) × (m : ℕ) × (v : World) × (asked ≡ Some settings) × IsTask types task × (task.settings ≡ settings) × IsAnswered task (start types) heard text m v
+PipesAsked types asked received text =
+    (settings : RunSettings) × (task : Task) × (m : ℕ) × (v : World) × (asked ≡ Some settings) × IsTask types task × (task.settings ≡ settings) × IsAnswered task (start types) received text m v
 
--- nothing is read or written, or a front of that
-abbrev pub PipesFrontAsked : List ServedShape → Option RunSettings → List ℕ → List ℕ → Type 0
-PipesFrontAsked types asked heard text =
-    ((heard ≡ []) × (text ≡ [])) ⊎ ((settings : RunSettings) × (task : Task) × (asked ≡ Some settings) × IsTask types task × (task.settings ≡ settings) × IsAnsweredFront task (start types) heard text)
+-- nothing is read or written, or a prefix of that
+abbrev pub PipesPrefixAsked : List ServedShape → Option RunSettings → List ℕ → List ℕ → Type 0
+PipesPrefixAsked types asked received text =
+    ((received ≡ []) × (text ≡ [])) ⊎ ((settings : RunSettings) × (task : Task) × (asked ≡ Some settings) × IsTask types task × (task.settings ≡ settings) × IsAnsweredPrefix task (start types) received text)
 
 -- ---- the run of the events
 
@@ -217,8 +217,8 @@ Joins task n w lines parts v =
 -- ---- as the code has it
 
 -- the code's world stands for this one
-abbrev pub Stands : worlds.World ByNamespace → Task → World → Type 0
-Stands x task w = WorldStands namespace_keys task (kept w.client.cache) x w
+abbrev pub Represents : worlds.World ByNamespace → Task → World → Type 0
+Represents x task w = WorldRepresents namespace_keys task (kept w.client.cache) x w
 
 -- of the code's report
 abbrev pub report_text : shown.Report → List ℕ
@@ -238,7 +238,7 @@ step_text n x why =
 -- what is left of a line's bytes without their line feed; nothing where there are none
 abbrev pub IsCut : List ℕ → Option (List ℕ) → Type 0
 IsCut bytes None = bytes ≡ []
-IsCut bytes (Some line) = (bytes ≡ line ++ 10 ∷ []) ⊎ ((front : List ℕ) × (b : ℕ) × (b ≢ 10) × (bytes ≡ front ++ b ∷ []) × (line ≡ bytes))
+IsCut bytes (Some line) = (bytes ≡ line ++ 10 ∷ []) ⊎ ((prefix : List ℕ) × (b : ℕ) × (b ≢ 10) × (bytes ≡ prefix ++ b ∷ []) × (line ≡ bytes))
 
 -- the next line of a reader, and the bytes that it took; none where it has no more
 abbrev pub ReadsNext : Option (List ℕ) → Option (List ℕ) → Option (List ℕ) → Type 0
@@ -260,26 +260,26 @@ EndsPlaying (Ok x) = ⊤
 EndsPlaying (Err e) = IsOfPlay e
 
 -- the answer to one line, which these bytes are
-pub record IsTurn (task : Task) (n : ℕ) (w : World) (heard told : List ℕ) (m : ℕ) (v : World) : Type 0 where
+pub record IsTurn (task : Task) (n : ℕ) (w : World) (received emitted : List ℕ) (m : ℕ) (v : World) : Type 0 where
   pub line : List ℕ
   pub parts : List Part
-  pub cut : IsPiece heard line
+  pub cut : IsPiece received line
   pub answered : Answered task n w line parts m v
-  pub text : told ≡ flat_map part_text parts
+  pub text : emitted ≡ flat_map part_text parts
 
 -- a reader's next line was answered to a writer, or the reader had no more
 abbrev pub Turns : Option (List ℕ) → Option (List ℕ) → Option (List ℕ) → Option (List ℕ) → Task → ℕ → World → worlds.World ByNamespace → Option ℕ → Type 0
 Turns before after old new task n w x None = Consumes before after [] × IsAtEnd before × Appends old new []
 Turns before after old new task n w x (Some m) =
-    (heard : List ℕ) × (told : List ℕ) × (v : World) × Consumes before after heard × Appends old new told × IsTurn task n w heard told m v × Stands x task v
+    (received : List ℕ) × (emitted : List ℕ) × (v : World) × Consumes before after received × Appends old new emitted × IsTurn task n w received emitted m v × Represents x task v
 
--- nothing of the answer was written, or a front
-abbrev pub TurnsFront : Option (List ℕ) → Option (List ℕ) → Option (List ℕ) → Option (List ℕ) → Task → ℕ → World → Type 0
-TurnsFront before after old new task n w =
-    (heard : List ℕ) × (told : List ℕ) × Consumes before after heard × Appends old new told
-    × ((told ≡ []) ⊎ ((more : List ℕ) × (m : ℕ) × (v : World) × IsTurn task n w heard (told ++ more) m v))
+-- nothing of the answer was written, or a prefix
+abbrev pub TurnsPrefix : Option (List ℕ) → Option (List ℕ) → Option (List ℕ) → Option (List ℕ) → Task → ℕ → World → Type 0
+TurnsPrefix before after old new task n w =
+    (received : List ℕ) × (emitted : List ℕ) × Consumes before after received × Appends old new emitted
+    × ((emitted ≡ []) ⊎ ((more : List ℕ) × (m : ℕ) × (v : World) × IsTurn task n w received (emitted ++ more) m v))
 
 -- what holds after some turns: what was read and written so far, and where that led
 abbrev pub IsAt : Option (List ℕ) → Option (List ℕ) → Option (List ℕ) → Option (List ℕ) → Task → World → worlds.World ByNamespace → ℕ → Type 0
 IsAt start reader blank writer task w x n =
-    (heard : List ℕ) × (told : List ℕ) × (v : World) × Consumes start reader heard × Appends blank writer told × IsAnswered task w heard told n v × Stands x task v
+    (received : List ℕ) × (emitted : List ℕ) × (v : World) × Consumes start reader received × Appends blank writer emitted × IsAnswered task w received emitted n v × Represents x task v

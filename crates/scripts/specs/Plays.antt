@@ -8,7 +8,7 @@ use Rattle.world.specs.Traces.{IsTraceOf}
 use Rattle.world.specs.declared.fault.WorldFault as worlds
 use Rattle.world.specs.declared.fault.WorldFault.TheVariants as stopped
 use Rattle.world.specs.declared.trace.Trace.{Trace}
-use Rattle.scripts.specs.Output.{PrintsFront, Prints, parts_of}
+use Rattle.scripts.specs.Output.{PrintsPrefix, Prints, parts_of}
 use Rattle.scripts.specs.declared.by_namespace.ByNamespace.{ByNamespace}
 use Rattle.scripts.specs.declared.replay_fault.ReplayFault.{ReplayFault}
 use Rattle.scripts.specs.declared.replay_fault.ReplayFault.TheVariants.{Memory, Store, Settings, Link, Write}
@@ -32,9 +32,9 @@ IsRun types settings events t = (b : ByNamespace) × IsTraceOf namespace_keys (b
 abbrev pub Plays : List ServedShape → RunSettings → List WorldEvent → List ℕ → Type 0
 Plays types settings events text = (t : Trace) × IsRun types settings events t × Prints (parts_of t) text
 
--- nothing is printed, or a front of what is printed of a run
-abbrev pub PlaysFront : List ServedShape → RunSettings → List WorldEvent → List ℕ → Type 0
-PlaysFront types settings events text = (text ≡ []) ⊎ ((t : Trace) × IsRun types settings events t × PrintsFront (parts_of t) text)
+-- nothing is printed, or a prefix of what is printed of a run
+abbrev pub PlaysPrefix : List ServedShape → RunSettings → List WorldEvent → List ℕ → Type 0
+PlaysPrefix types settings events text = (text ≡ []) ⊎ ((t : Trace) × IsRun types settings events t × PrintsPrefix (parts_of t) text)
 
 -- ---- why a play ends before its end
 

@@ -20,13 +20,13 @@ status_of (fault.Settings n) = runs.wrong_usage
 status_of fault.Link = 6
 status_of (fault.Input e) = 3
 
-abbrev pub script_fault_told : ScriptFault → ProgramFault
-script_fault_told (script.BadEvent n why) = fault.Script n why
-script_fault_told script.Memory = fault.Run run.Memory
+abbrev pub script_fault_reported : ScriptFault → ProgramFault
+script_fault_reported (script.BadEvent n why) = fault.Script n why
+script_fault_reported script.Memory = fault.Run run.Memory
 
-abbrev pub replay_fault_told : ReplayFault → ProgramFault
-replay_fault_told replay.Memory = fault.Run run.Memory
-replay_fault_told replay.Store = fault.Run run.Store
-replay_fault_told (replay.Settings n) = fault.Settings n
-replay_fault_told replay.Link = fault.Link
-replay_fault_told (replay.Write e) = fault.Run (run.Output e)
+abbrev pub replay_fault_reported : ReplayFault → ProgramFault
+replay_fault_reported replay.Memory = fault.Run run.Memory
+replay_fault_reported replay.Store = fault.Run run.Store
+replay_fault_reported (replay.Settings n) = fault.Settings n
+replay_fault_reported replay.Link = fault.Link
+replay_fault_reported (replay.Write e) = fault.Run (run.Output e)

@@ -4,7 +4,7 @@ ghost use Rattle.std.specs.List.{flat_map};
 ghost use Rattle.std.specs.Option.{option_to_list};
 ghost use Rattle.std.specs.FinMap as fin;
 ghost use Rattle.summary.specs.Summary.{counts_in};
-ghost use Rattle.world.specs.Seen.{reply_seen};
+ghost use Rattle.world.specs.Views.{reply_seen};
 ghost use Rattle.scripts.specs.Piped.{Part, bad_text, ended, last_text, number_text, opened, part_text, quoted, refused_text, report_text, step_text, written_part, written_text};
 
 use crate::line_fault::LineFault;

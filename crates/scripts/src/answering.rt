@@ -3,8 +3,8 @@ ghost use Rattle.std.specs.Prelude.{◌≡◌, ◌<◌, ◌≤◌, ◌+◌, ℕ,
 ghost use Rattle.std.specs.List.{flat_map};
 ghost use Rattle.world_laws.specs.Tasks.{Task};
 ghost use Rattle.world_laws.specs.World as worlds;
-ghost use Rattle.world.specs.Seen.{event_seen};
-ghost use Rattle.scripts.specs.Piped.{Answered, IsBad, Part, Stands, Takes, part_text};
+ghost use Rattle.world.specs.Views.{event_seen};
+ghost use Rattle.scripts.specs.Piped.{Answered, IsBad, Part, Represents, Takes, part_text};
 ghost use Rattle.scripts.specs.Plays.{Answers};
 ghost use Rattle.scripts.specs.Script.{IsEventLine};
 
@@ -44,8 +44,8 @@ fn answer_to_event(
     number: usize,
     event: &WorldEvent,
 ) -> Result<Answer, ReplayFault>
-    ensures takes { (task : Task) (n : ℕ) (w : worlds.World) (line : List ℕ) → Stands world.old task w → number ≡ suc n → IsEventLine line (event_seen event.now)
-        → IfOk result (λ a. (parts : List Part) × (v : worlds.World) × Takes task n w line parts a.events v × Stands world.new task v × (a.text.items ≡ flat_map part_text parts)) }
+    ensures takes { (task : Task) (n : ℕ) (w : worlds.World) (line : List ℕ) → Represents world.old task w → number ≡ suc n → IsEventLine line (event_seen event.now)
+        → IfOk result (λ a. (parts : List Part) × (v : worlds.World) × Takes task n w line parts a.events v × Represents world.new task v × (a.text.items ≡ flat_map part_text parts)) }
     ensures events { IfOk result (λ a. a.events ≡ number) }
     ensures settings { Answers None result }
 {
@@ -65,8 +65,8 @@ pub(crate) fn answer_to(
     line: &[u8],
 ) -> Result<Answer, ReplayFault>
     requires { events < 18446744073709551615 }
-    ensures answers { (task : Task) (w : worlds.World) → Stands world.old task w
-        → IfOk result (λ a. (parts : List Part) × (v : worlds.World) × Answered task events w line.now parts a.events v × Stands world.new task v × (a.text.items ≡ flat_map part_text parts)) }
+    ensures answers { (task : Task) (w : worlds.World) → Represents world.old task w
+        → IfOk result (λ a. (parts : List Part) × (v : worlds.World) × Answered task events w line.now parts a.events v × Represents world.new task v × (a.text.items ≡ flat_map part_text parts)) }
     ensures events { IfOk result (λ a. a.events ≤ events + 1) }
     ensures settings { Answers None result }
 {

@@ -1,6 +1,6 @@
 //! The request that an apply line makes. The line's text is read in `script`.
 ghost use Rattle.std.specs.Prelude.{◌≡◌, IfOk, string_bytes};
-ghost use Rattle.scripts.specs.Seen.{apply_of};
+ghost use Rattle.scripts.specs.Views.{apply_of};
 ghost use Rattle.scripts.specs.Requests.{IsRequestOf, query_of, request_target_of};
 
 use api_request::APPLY_TYPE;

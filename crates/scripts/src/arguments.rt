@@ -5,7 +5,7 @@ ghost use Rattle.clap.specs.Matches.{first_value, found_of};
 ghost use Rattle.clap.specs.Words.{fault_of, first_of, matches_of};
 ghost use Rattle.programs.specs.Numbers.{IsNumberOr};
 ghost use Rattle.programs.specs.Resources.{resource_in};
-ghost use Rattle.programs.specs.Seen.{resource_of};
+ghost use Rattle.programs.specs.Views.{resource_of};
 ghost use Rattle.scripts.specs.PlayerCommand.{IsPlayerCommand, IsPipeCommand, RefusedBy, default_label, default_page, default_type, pipe_app, player};
 ghost use Rattle.scripts.specs.declared.program_fault.ProgramFault.TheVariants.{Form};
 

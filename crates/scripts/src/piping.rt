@@ -7,10 +7,10 @@ ghost use Rattle.api_types.specs.TypesFile.{ServedShape};
 ghost use Rattle.httpedge.specs.Connections.{written_on};
 ghost use Rattle.world_laws.specs.Tasks.{IsTask, Task, settings_fault};
 ghost use Rattle.world_laws.specs.World as worlds;
-ghost use Rattle.world.specs.Seen.{settings_seen};
+ghost use Rattle.world.specs.Views.{settings_seen};
 ghost use Rattle.scripts.specs.Plays.{Answers, index_names};
 ghost use Rattle.scripts.specs.Asked.{Ends, settings_asked};
-ghost use Rattle.scripts.specs.Piped.{Converses, EndsPlaying, IsAnswered, IsAnsweredFront, IsCut, Joins, Part, PipesAsked, PipesFrontAsked, ReadsNext, Stands, Turns, TurnsFront};
+ghost use Rattle.scripts.specs.Piped.{Converses, EndsPlaying, IsAnswered, IsAnsweredPrefix, IsCut, Joins, Part, PipesAsked, PipesPrefixAsked, ReadsNext, Represents, Turns, TurnsPrefix};
 
 use crate::answering::answer_to;
 use crate::arguments::ClientOptions;
@@ -53,7 +53,7 @@ fn next_line<R: BufRead>(alloc: Global, reader: &mut R) -> io::Result<Option<Vec
 /// Writes an answer, and hands on what the writer holds.
 fn write<W: Write>(writer: &mut W, text: &[u8]) -> io::Result<()>
     ensures all { OnOk result (Appends (W.contents writer.old) (W.contents writer.new) text.now) }
-    ensures front { (told : List ℕ) × (rest : List ℕ) × (text.now ≡ told ++ rest) × Appends (W.contents writer.old) (W.contents writer.new) told }
+    ensures prefix { (emitted : List ℕ) × (rest : List ℕ) × (text.now ≡ emitted ++ rest) × Appends (W.contents writer.old) (W.contents writer.new) emitted }
 {
     write_whole(writer, text)?;
     writer.flush()
@@ -69,8 +69,8 @@ fn answer_next<R: BufRead, W: Write>(
     writer: &mut W,
 ) -> Result<Option<usize>, ProgramFault>
     requires { events < 18446744073709551615 }
-    ensures turn { (task : Task) (w : worlds.World) → Stands world.old task w → IfOk result (Turns (R.remaining reader.old) (R.remaining reader.new) (W.contents writer.old) (W.contents writer.new) task events w world.new) }
-    ensures front { (task : Task) (w : worlds.World) → Stands world.old task w → OnErr result (TurnsFront (R.remaining reader.old) (R.remaining reader.new) (W.contents writer.old) (W.contents writer.new) task events w) }
+    ensures turn { (task : Task) (w : worlds.World) → Represents world.old task w → IfOk result (Turns (R.remaining reader.old) (R.remaining reader.new) (W.contents writer.old) (W.contents writer.new) task events w world.new) }
+    ensures prefix { (task : Task) (w : worlds.World) → Represents world.old task w → OnErr result (TurnsPrefix (R.remaining reader.old) (R.remaining reader.new) (W.contents writer.old) (W.contents writer.new) task events w) }
     ensures ends { EndsPlaying result }
 {
     let line = match next_line(alloc, reader) {
@@ -92,10 +92,10 @@ fn answer_all<R: BufRead, W: Write>(
     reader: &mut R,
     writer: &mut W,
 ) -> Result<(), ProgramFault>
-    ensures ok { (task : Task) (w : worlds.World) → Stands world.old task w → OnOk result ((heard : List ℕ) × (told : List ℕ) × (m : ℕ) × (v : worlds.World) × Consumes (R.remaining reader.old) (R.remaining reader.new) heard
-        × IfSome (R.remaining reader.old) (λ bytes. heard ≡ bytes) × Appends (W.contents writer.old) (W.contents writer.new) told × IsAnswered task w heard told m v) }
-    ensures front { (task : Task) (w : worlds.World) → Stands world.old task w → OnErr result ((heard : List ℕ) × (told : List ℕ) × Consumes (R.remaining reader.old) (R.remaining reader.new) heard
-        × Appends (W.contents writer.old) (W.contents writer.new) told × IsAnsweredFront task w heard told) }
+    ensures ok { (task : Task) (w : worlds.World) → Represents world.old task w → OnOk result ((received : List ℕ) × (emitted : List ℕ) × (m : ℕ) × (v : worlds.World) × Consumes (R.remaining reader.old) (R.remaining reader.new) received
+        × IfSome (R.remaining reader.old) (λ bytes. received ≡ bytes) × Appends (W.contents writer.old) (W.contents writer.new) emitted × IsAnswered task w received emitted m v) }
+    ensures prefix { (task : Task) (w : worlds.World) → Represents world.old task w → OnErr result ((received : List ℕ) × (emitted : List ℕ) × Consumes (R.remaining reader.old) (R.remaining reader.new) received
+        × Appends (W.contents writer.old) (W.contents writer.new) emitted × IsAnsweredPrefix task w received emitted) }
     ensures ends { EndsPlaying result }
 {
     let mut events = 0;
@@ -117,7 +117,7 @@ fn world_of(
     types: Types,
     settings: Settings,
 ) -> Result<World<ByNamespace>, ReplayFault>
-    ensures stands { IfOk result (λ x. (task : Task) × IsTask (types_view types) task × (task.settings ≡ settings_seen settings) × Stands x task (worlds.start (types_view types))) }
+    ensures represents { IfOk result (λ x. (task : Task) × IsTask (types_view types) task × (task.settings ≡ settings_seen settings) × Represents x task (worlds.start (types_view types))) }
     ensures settings { Answers (settings_fault (types_view types) index_names (settings_seen settings)) result }
 {
     let indexes = vec![in alloc; ByNamespace]?;
@@ -133,10 +133,10 @@ pub fn pipe<R: BufRead, W: Write>(
     reader: &mut R,
     writer: &mut W,
 ) -> Result<(), ProgramFault>
-    ensures ok { OnOk result ((heard : List ℕ) × (told : List ℕ) × PipesAsked (types_view types) (settings_asked (types_view types) options.now) heard told × Consumes (R.remaining reader.old) (R.remaining reader.new) heard
-        × IfSome (R.remaining reader.old) (λ bytes. heard ≡ bytes) × Appends (W.contents writer.old) (W.contents writer.new) told) }
-    ensures front { OnErr result ((heard : List ℕ) × (told : List ℕ) × PipesFrontAsked (types_view types) (settings_asked (types_view types) options.now) heard told
-        × Consumes (R.remaining reader.old) (R.remaining reader.new) heard × Appends (W.contents writer.old) (W.contents writer.new) told) }
+    ensures ok { OnOk result ((received : List ℕ) × (emitted : List ℕ) × PipesAsked (types_view types) (settings_asked (types_view types) options.now) received emitted × Consumes (R.remaining reader.old) (R.remaining reader.new) received
+        × IfSome (R.remaining reader.old) (λ bytes. received ≡ bytes) × Appends (W.contents writer.old) (W.contents writer.new) emitted) }
+    ensures prefix { OnErr result ((received : List ℕ) × (emitted : List ℕ) × PipesPrefixAsked (types_view types) (settings_asked (types_view types) options.now) received emitted
+        × Consumes (R.remaining reader.old) (R.remaining reader.new) received × Appends (W.contents writer.old) (W.contents writer.new) emitted) }
     ensures ends { Ends (types_view types) (settings_asked (types_view types) options.now) [] result }
 {
     let settings = settings_of(alloc, &types, options)?;

@@ -4,11 +4,11 @@ ghost use Rattle.std.specs.Io.KnownBytes.{Appends};
 ghost use Rattle.std.specs.List.{flat_map};
 ghost use Rattle.std.specs.FinMap as fin;
 ghost use Rattle.serde_json.specs.View.{members_view};
-ghost use Rattle.wireclient.specs.Views.{told_of};
+ghost use Rattle.wireclient.specs.Views.{reply_item_of};
 ghost use Rattle.summary.specs.Apply.{count_members};
 ghost use Rattle.summary.specs.Summary.{counts_in};
-ghost use Rattle.world.specs.Seen.{reply_seen};
-ghost use Rattle.scripts.specs.Output.{Prints, PrintsFront, Tells, TellsReply, connection_text, connections_in, counts_text, parts_of, replies_in, report_text, words_of};
+ghost use Rattle.world.specs.Views.{reply_seen};
+ghost use Rattle.scripts.specs.Output.{Prints, PrintsPrefix, WritesPart, WritesReply, connection_text, connections_in, counts_text, parts_of, replies_in, report_text, words_of};
 ghost use Rattle.scripts.specs.Parts.{IsOfOutput, IsSetOf, part_seen};
 
 use crate::replay_fault::ReplayFault;
@@ -32,7 +32,7 @@ pub(crate) enum Part<'a> {
 
 /// Writes what is printed of a part of a reply.
 fn push_words(alloc: Global, line: &mut Vec<u8>, item: &Item) -> Result<(), AllocError>
-    ensures { OnOk result (line.new.items ≡ line.old.items ++ words_of (told_of item.now)) }
+    ensures { OnOk result (line.new.items ≡ line.old.items ++ words_of (reply_item_of item.now)) }
 {
     match item {
         Item::Head(status) => {
@@ -48,7 +48,7 @@ fn push_words(alloc: Global, line: &mut Vec<u8>, item: &Item) -> Result<(), Allo
 
 /// What is printed of the parts of a reply.
 fn line_of(alloc: Global, items: &[Item]) -> Result<Vec<u8>, AllocError>
-    ensures { IfOk result (λ v. v.items ≡ flat_map words_of (map told_of items.now)) }
+    ensures { IfOk result (λ v. v.items ≡ flat_map words_of (map reply_item_of items.now)) }
 {
     let mut line = Vec::new(alloc);
     for item in items {
@@ -59,7 +59,7 @@ fn line_of(alloc: Global, items: &[Item]) -> Result<Vec<u8>, AllocError>
 
 /// The line that tells a reply: `<status> <body>` and a line feed.
 fn reply_line(alloc: Global, reply: &[u8]) -> Result<Vec<u8>, AllocError>
-    ensures { IfOk result (λ v. TellsReply reply.now v.items) }
+    ensures { IfOk result (λ v. WritesReply reply.now v.items) }
 {
     match ReplyReader::new(alloc).feed(reply) {
         Ok(items) => line_of(alloc, &items),
@@ -115,7 +115,7 @@ fn report_line(alloc: Global, report: &Report) -> Result<String, AllocError>
 }
 
 fn text_of(alloc: Global, part: Part<'_>) -> Result<Vec<u8>, AllocError>
-    ensures { IfOk result (λ v. Tells (part_seen part.entry) v.items) }
+    ensures { IfOk result (λ v. WritesPart (part_seen part.entry) v.items) }
 {
     match part {
         Part::Reply(bytes) => reply_line(alloc, bytes),
@@ -178,7 +178,7 @@ fn parts_of<'a>(alloc: Global, trace: &'a Trace) -> Result<Vec<Part<'a>>, AllocE
 
 fn write<W: Write>(writer: &mut W, text: &[u8]) -> Result<(), ReplayFault>
     ensures all { OnOk result (Appends (W.contents writer.old) (W.contents writer.new) text.now) }
-    ensures front { (told : List ℕ) × (rest : List ℕ) × (text.now ≡ told ++ rest) × Appends (W.contents writer.old) (W.contents writer.new) told }
+    ensures prefix { (emitted : List ℕ) × (rest : List ℕ) × (text.now ≡ emitted ++ rest) × Appends (W.contents writer.old) (W.contents writer.new) emitted }
     ensures fault { IfErr result IsOfOutput }
 {
     wire::write_whole(writer, text).map_err(ReplayFault::Write)
@@ -190,7 +190,7 @@ fn write_parts<W: Write>(
     writer: &mut W,
 ) -> Result<(), ReplayFault>
     ensures ok { OnOk result ((text : List ℕ) × Prints (map part_seen parts.now) text × Appends (W.contents writer.old) (W.contents writer.new) text) }
-    ensures front { OnErr result ((text : List ℕ) × PrintsFront (map part_seen parts.now) text × Appends (W.contents writer.old) (W.contents writer.new) text) }
+    ensures prefix { OnErr result ((text : List ℕ) × PrintsPrefix (map part_seen parts.now) text × Appends (W.contents writer.old) (W.contents writer.new) text) }
     ensures fault { IfErr result IsOfOutput }
 {
     for part in parts {
@@ -200,14 +200,14 @@ fn write_parts<W: Write>(
     Ok(())
 }
 
-/// Writes what is printed of a trace; after a fault, a front of it is written.
+/// Writes what is printed of a trace; after a fault, a prefix of it is written.
 pub(crate) fn print<W: Write>(
     alloc: Global,
     trace: &Trace,
     writer: &mut W,
 ) -> Result<(), ReplayFault>
     ensures ok { OnOk result ((text : List ℕ) × Prints (parts_of trace.now) text × Appends (W.contents writer.old) (W.contents writer.new) text) }
-    ensures front { OnErr result ((text : List ℕ) × PrintsFront (parts_of trace.now) text × Appends (W.contents writer.old) (W.contents writer.new) text) }
+    ensures prefix { OnErr result ((text : List ℕ) × PrintsPrefix (parts_of trace.now) text × Appends (W.contents writer.old) (W.contents writer.new) text) }
     ensures fault { IfErr result IsOfOutput }
 {
     let parts = parts_of(alloc, trace)?;

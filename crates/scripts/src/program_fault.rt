@@ -103,9 +103,9 @@ impl From<AllocError> for ProgramFault {
 
 impl From<ScriptFault> for ProgramFault {
     ghost use Rattle.std.specs.Prelude.{◌≡◌};
-    ghost use Rattle.scripts.specs.Statuses.{script_fault_told};
+    ghost use Rattle.scripts.specs.Statuses.{script_fault_reported};
 
-    ghost from_gives = { λ f e. e ≡ script_fault_told f };
+    ghost from_gives = { λ f e. e ≡ script_fault_reported f };
 
     fn from(fault: ScriptFault) -> ProgramFault {
         match fault {
@@ -117,9 +117,9 @@ impl From<ScriptFault> for ProgramFault {
 
 impl From<ReplayFault> for ProgramFault {
     ghost use Rattle.std.specs.Prelude.{◌≡◌};
-    ghost use Rattle.scripts.specs.Statuses.{replay_fault_told};
+    ghost use Rattle.scripts.specs.Statuses.{replay_fault_reported};
 
-    ghost from_gives = { λ f e. e ≡ replay_fault_told f };
+    ghost from_gives = { λ f e. e ≡ replay_fault_reported f };
 
     fn from(fault: ReplayFault) -> ProgramFault {
         match fault {

@@ -4,8 +4,8 @@ ghost use Rattle.std.specs.Prelude.{◌≡◌, ◌≢◌, ℕ, List, false, Err,
 ghost use Rattle.std.specs.Io.KnownBytes.{Appends};
 ghost use Rattle.api_types.specs.Served.{types_view};
 ghost use Rattle.world_laws.specs.Tasks.{settings_fault};
-ghost use Rattle.world.specs.Seen.{event_seen, settings_seen};
-ghost use Rattle.scripts.specs.Plays.{Answers, Plays, PlaysFront, index_names};
+ghost use Rattle.world.specs.Views.{event_seen, settings_seen};
+ghost use Rattle.scripts.specs.Plays.{Answers, Plays, PlaysPrefix, index_names};
 
 use crate::by_namespace::ByNamespace;
 use crate::printing::print;
@@ -19,7 +19,7 @@ use world::{Link, Settings, WorldEvent, run_over};
 /// between the two go over the link. Writes the line of the reply to each request, `<status> <body>`; what was written
 /// on each other connection, also where its peer has gone, in the order of their ids, under a line
 /// `connection <id> <bytes>`; and a line `report <event> <revision> <objects> <counts>` for each report. After a fault,
-/// a front of this is written.
+/// a prefix of this is written.
 pub fn replay<L: Link, W: Write>(
     alloc: Global,
     types: Types,
@@ -29,7 +29,7 @@ pub fn replay<L: Link, W: Write>(
     writer: &mut W,
 ) -> Result<(), ReplayFault>
     ensures ok { OnOk result ((text : List ℕ) × Plays (types_view types) (settings_seen settings) (map event_seen events.now) text × Appends (W.contents writer.old) (W.contents writer.new) text) }
-    ensures front { OnErr result ((text : List ℕ) × PlaysFront (types_view types) (settings_seen settings) (map event_seen events.now) text × Appends (W.contents writer.old) (W.contents writer.new) text) }
+    ensures prefix { OnErr result ((text : List ℕ) × PlaysPrefix (types_view types) (settings_seen settings) (map event_seen events.now) text × Appends (W.contents writer.old) (W.contents writer.new) text) }
     ensures settings { Answers (settings_fault (types_view types) index_names (settings_seen settings)) result }
     ensures link { L.may_fail ≡ false → result ≢ Err ReplayFault.Link }
 {

@@ -3,13 +3,13 @@ ghost use Rattle.std.specs.Prelude.{◌≡◌, ℕ, IfOk, IsErrOf, Some, map, op
 ghost use Rattle.std.specs.Vec.Iter.{into_iter_items};
 ghost use Rattle.serde_json.specs.View.{items_view, members_view, view};
 ghost use Rattle.serde_json.specs.Find.{as_bool, as_object, as_str};
-ghost use Rattle.world.specs.Seen.{event_seen};
+ghost use Rattle.world.specs.Views.{event_seen};
 ghost use Rattle.std.specs.Result.{result_ok};
 ghost use Rattle.hex.specs.Hex.{decode_of};
 ghost use Rattle.scripts.specs.Script.{AreEvents, IsFirstBad, ReadsLine, lines_of};
 ghost use Rattle.scripts.specs.declared.line_fault.LineFault.{LineFault};
 ghost use Rattle.scripts.specs.ScriptSteps.{Makes, applies, apply_in, client_named, comes_in, digits_in, event_of_digits, happens, is_target, line_in, line_named, event_named, line_of, next_item, next_named, number_in, numbered, only_member, pumps_in, text_in, with_items, with_rest};
-ghost use Rattle.scripts.specs.Seen.{apply_of, line_view};
+ghost use Rattle.scripts.specs.Views.{apply_of, line_view};
 
 use crate::apply_line::{ApplyLine, request_of};
 use crate::line_fault::{LineFault, line_fault};

@@ -1,7 +1,7 @@
 //! The settings of a run that a program's arguments ask for.
 ghost use Rattle.std.specs.Prelude.{◌≡◌, ◌⊎◌, IfErr, IfOk, None, Some, option_map, string_bytes};
 ghost use Rattle.api_types.specs.Served.{types_view};
-ghost use Rattle.world.specs.Seen.{settings_seen};
+ghost use Rattle.world.specs.Views.{settings_seen};
 ghost use Rattle.programs.specs.declared.run_fault.RunFault.TheVariants.{Memory};
 ghost use Rattle.scripts.specs.Asked.{settings_asked};
 ghost use Rattle.scripts.specs.declared.program_fault.ProgramFault.TheVariants.{NoType, Run};

@@ -38,12 +38,12 @@ cut_trailing (n ∷ ns) s r h =
     let whole : m ≡ r ++ 32 ∷ [] = sym (take-append-drop (length m - n) m) ∙ ap (λ (x : List ℕ). x ++ drop (length m - n) m) (sym h.3) ∙ ap (λ (x : List ℕ). r ++ x) end in
     sym (ap without_leading_blanks (ap reverse whole ∙ reverse-append r (32 ∷ []))) ∙ cut_trailing ns s m h.1
 
-no_blank_last : (q : List ℕ) → ((front : List ℕ) → reverse q ≢ front ++ 32 ∷ []) → without_leading_blanks q ≡ q
+no_blank_last : (q : List ℕ) → ((prefix : List ℕ) → reverse q ≢ prefix ++ 32 ∷ []) → without_leading_blanks q ≡ q
 no_blank_last q h = no_blank_first q (λ rest e. h (reverse rest) (ap reverse e ∙ reverse-append (32 ∷ []) rest))
 
 trailing_done : (r : List ℕ) (o : Option ℕ) → FindsCharSuffix 32 r o → IfSome o (λ n. n ≡ 0) → without_leading_blanks (reverse r) ≡ reverse r
 unfolding encode_utf8
-trailing_done r None h e = no_blank_last (reverse r) (λ front q. h front (sym (reverse-reverse r) ∙ q))
+trailing_done r None h e = no_blank_last (reverse r) (λ prefix q. h prefix (sym (reverse-reverse r) ∙ q))
 trailing_done r (Some n) h e = let ends : n ≡ 1 = h.0 in absurd (omega arith)
 
 pub trim_end : (s r : List ℕ) → IsTrimEndMatches (FindsCharSuffix 32) s r → r ≡ without_trailing_blanks s

@@ -35,7 +35,7 @@ cut_none (x ∷ xs) h =
 
 -- ---- where the first '=' has no '!' before it
 
-after_other : (x : ℕ) (xs after : List ℕ) → Lacks (x ∷ xs) → ((front : List ℕ) → x ∷ xs ≢ front ++ 33 ∷ []) → (eqb x 33 && bytes_eq (take 1 (xs ++ 61 ∷ after)) (61 ∷ [])) ≡ false
+after_other : (x : ℕ) (xs after : List ℕ) → Lacks (x ∷ xs) → ((prefix : List ℕ) → x ∷ xs ≢ prefix ++ 33 ∷ []) → (eqb x 33 && bytes_eq (take 1 (xs ++ 61 ∷ after)) (61 ∷ [])) ≡ false
 after_other x [] after h other = rw (ne_eqb x 33 (λ e. other [] (ap (λ y. y ∷ []) e))) refl
 after_other x (y ∷ ys) after h other = rw (lacks_first y ys (lacks_rest x (y ∷ ys) h)) (never (eqb x 33))
   where
@@ -43,10 +43,10 @@ after_other x (y ∷ ys) after h other = rw (lacks_first y ys (lacks_rest x (y �
     never true = refl
     never false = refl
 
-pub cut_equal : (xs after value : List ℕ) → Lacks xs → ((front : List ℕ) → xs ≢ front ++ 33 ∷ []) → sign_at (61 ∷ after) ≡ Some (equal, value) → cut_at_sign (xs ++ 61 ∷ after) ≡ (xs, Some (equal, value))
+pub cut_equal : (xs after value : List ℕ) → Lacks xs → ((prefix : List ℕ) → xs ≢ prefix ++ 33 ∷ []) → sign_at (61 ∷ after) ≡ Some (equal, value) → cut_at_sign (xs ++ 61 ∷ after) ≡ (xs, Some (equal, value))
 cut_equal [] after value h other sign = rw sign refl
 cut_equal (x ∷ xs) after value h other sign =
-    let rest = cut_equal xs after value (lacks_rest x xs h) (λ front e. other (x ∷ front) (ap (λ (ys : List ℕ). x ∷ ys) e)) sign in
+    let rest = cut_equal xs after value (lacks_rest x xs h) (λ prefix e. other (x ∷ prefix) (ap (λ (ys : List ℕ). x ∷ ys) e)) sign in
     rw (no_sign x (xs ++ 61 ∷ after) (lacks_first x xs h) (after_other x xs after h other), rest) refl
 
 -- the second '=' belongs to the sign

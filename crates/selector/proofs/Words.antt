@@ -7,13 +7,13 @@ use Rattle.selector.specs.Grammar.{before_word}
 
 pub before_word-some : (word text : List ℕ) → text ≡ take (length text - length word) text ++ word → before_word word text ≡ Some (take (length text - length word) text)
 before_word-some word text parts =
-    let front = take (length text - length word) text in
-    let sizes : length text ≡ length front + length word = ap length parts ∙ length-append front word in
-    let back : drop (length text - length word) text ≡ word = ap (λ (t : List ℕ). drop (length text - length word) t) parts ∙ drop_at front word (length text - length word) (omega arith) in
+    let prefix = take (length text - length word) text in
+    let sizes : length text ≡ length prefix + length word = ap length parts ∙ length-append prefix word in
+    let back : drop (length text - length word) text ≡ word = ap (λ (t : List ℕ). drop (length text - length word) t) parts ∙ drop_at prefix word (length text - length word) (omega arith) in
     let same : bytes_eq (drop (length text - length word) text) word ≡ true = (bytes_eq-Decides (drop (length text - length word) text) word).1 back in
     rw same refl
 
-pub before_word-none : (word text : List ℕ) → ((front : List ℕ) → text ≢ front ++ word) → before_word word text ≡ None
+pub before_word-none : (word text : List ℕ) → ((prefix : List ℕ) → text ≢ prefix ++ word) → before_word word text ≡ None
 before_word-none word text other = go (bytes_eq (drop (length text - length word) text) word) refl
   where
     go : (t : Bool) → bytes_eq (drop (length text - length word) text) word ≡ t → cond t (Some (take (length text - length word) text)) None ≡ None
@@ -23,9 +23,9 @@ before_word-none word text other = go (bytes_eq (drop (length text - length word
     go false e = refl
 
 -- what `strip_suffix` says of a word
-pub strips_word : (word text front : List ℕ) → StripsSuffix (FindsTextSuffix word) text front → before_word word text ≡ Some front
-strips_word word text front h =
+pub strips_word : (word text prefix : List ℕ) → StripsSuffix (FindsTextSuffix word) text prefix → before_word word text ≡ Some prefix
+strips_word word text prefix h =
     let size : h.0 ≡ length word = h.1.0 in
-    let is : front ≡ take (length text - length word) text = rw size at h.2 in
+    let is : prefix ≡ take (length text - length word) text = rw size at h.2 in
     let parts : text ≡ take (length text - length word) text ++ word = rw size at h.1.1 in
     before_word-some word text parts ∙ ap Some (sym is)

@@ -16,13 +16,13 @@ abbrev pub ◌>>=◌ : {A B : Type 0} → Result A Fault → (A → Result B Fau
 (Err e) >>= f = Err e
 
 -- what a call answered, seen by view, is what reading gives, unless there was no memory
-abbrev pub Fails : {B : Type 0} → ReadError → Result B Fault → Type 0
-Fails (errors.Fault f) answer = answer ≡ Err f
-Fails errors.Memory answer = Unit {0}
+abbrev pub FailsWith : {B : Type 0} → ReadError → Result B Fault → Type 0
+FailsWith (errors.Fault f) answer = answer ≡ Err f
+FailsWith errors.Memory answer = Unit {0}
 
-abbrev pub Gives : {A B : Type 0} → (A → B) → Result A ReadError → Result B Fault → Type 0
-Gives view (Ok x) answer = answer ≡ Ok (view x)
-Gives view (Err e) answer = Fails e answer
+abbrev pub Returns : {A B : Type 0} → (A → B) → Result A ReadError → Result B Fault → Type 0
+Returns view (Ok x) answer = answer ≡ Ok (view x)
+Returns view (Err e) answer = FailsWith e answer
 
 -- blanks are spaces alone
 abbrev pub without_leading_blanks : List ℕ → List ℕ
@@ -91,7 +91,7 @@ pub data Sign : Type 0 where
   equal different : Sign
 
 abbrev pub begins_with : List ℕ → List ℕ → Bool
-begins_with front text = bytes_eq (take (length front) text) front
+begins_with prefix text = bytes_eq (take (length prefix) text) prefix
 
 -- the sign with which the text begins, and what comes after it
 abbrev pub sign_at : List ℕ → Option (Sign × List ℕ)

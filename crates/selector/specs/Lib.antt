@@ -2,4 +2,4 @@ pub mod Labels
 pub mod Requirement
 pub mod Grammar
 pub mod Views
-pub mod Faults
+pub mod FaultViews

@@ -32,7 +32,7 @@ pub enum ReadError {
 
 impl fmt::Display for Fault {
     ghost use Rattle.std.specs.Prelude.{Some};
-    ghost use Rattle.selector.specs.Faults.{fault_text};
+    ghost use Rattle.selector.specs.FaultViews.{fault_text};
 
     ghost output = { λ e. Some (fault_text e) };
 
@@ -48,7 +48,7 @@ impl fmt::Display for Fault {
 
 impl fmt::Display for ReadError {
     ghost use Rattle.std.specs.Prelude.{Some};
-    ghost use Rattle.selector.specs.Faults.{error_text};
+    ghost use Rattle.selector.specs.FaultViews.{error_text};
 
     ghost output = { λ e. Some (error_text e) };
 

@@ -2,7 +2,7 @@
 //! selector stands in `selector`.
 
 ghost use Rattle.std.specs.Prelude.{◌≡◌, ◌↔◌, [], true, map, IfOk, option_map, string_bytes};
-ghost use Rattle.selector.specs.Grammar.{Gives, required, key_of, value_of, values_of, outside_of, among_of, worded, set_of, equal, different, signed, plain_of, part_of, parts_of};
+ghost use Rattle.selector.specs.Grammar.{Returns, required, key_of, value_of, values_of, outside_of, among_of, worded, set_of, equal, different, signed, plain_of, part_of, parts_of};
 ghost use Rattle.selector.specs.Labels.{value_at};
 ghost use Rattle.selector.specs.Requirement.{meets};
 ghost use Rattle.selector.specs.Views.{condition_of, requirement_of, labels_of};
@@ -148,7 +148,7 @@ pub(crate) fn copy_all(
 }
 
 fn key_of(alloc: Global, text: &str) -> Result<String, ReadError>
-    ensures { Gives (λ k. string_bytes k) result (key_of text.now) }
+    ensures { Returns (λ k. string_bytes k) result (key_of text.now) }
 {
     let key = trimmed(text);
     if !is_label_key(key) {
@@ -158,7 +158,7 @@ fn key_of(alloc: Global, text: &str) -> Result<String, ReadError>
 }
 
 fn value_of(alloc: Global, text: &str) -> Result<String, ReadError>
-    ensures { Gives (λ v. string_bytes v) result (value_of text.now) }
+    ensures { Returns (λ v. string_bytes v) result (value_of text.now) }
 {
     let value = trimmed(text);
     if !is_label_value(value) {
@@ -169,7 +169,7 @@ fn value_of(alloc: Global, text: &str) -> Result<String, ReadError>
 
 /// The values between the brackets.
 fn values_of(alloc: Global, text: &str) -> Result<Vec<String>, ReadError>
-    ensures { Gives (λ v. map string_bytes v.items) result (values_of text.now) }
+    ensures { Returns (λ v. map string_bytes v.items) result (values_of text.now) }
 {
     let mut values = Vec::new(alloc);
     for value in text.split(',') {
@@ -179,7 +179,7 @@ fn values_of(alloc: Global, text: &str) -> Result<Vec<String>, ReadError>
 }
 
 fn among(alloc: Global, key: &str, values: &str) -> Result<Requirement, ReadError>
-    ensures { Gives requirement_of result (among_of (Some key.now) [] values.now) }
+    ensures { Returns requirement_of result (among_of (Some key.now) [] values.now) }
 {
     let key = key_of(alloc, key)?;
     let condition = Condition::Among(values_of(alloc, values)?);
@@ -187,7 +187,7 @@ fn among(alloc: Global, key: &str, values: &str) -> Result<Requirement, ReadErro
 }
 
 fn outside(alloc: Global, key: &str, values: &str) -> Result<Requirement, ReadError>
-    ensures { Gives requirement_of result (outside_of (Some key.now) values.now) }
+    ensures { Returns requirement_of result (outside_of (Some key.now) values.now) }
 {
     let key = key_of(alloc, key)?;
     let condition = Condition::Outside(values_of(alloc, values)?);
@@ -196,7 +196,7 @@ fn outside(alloc: Global, key: &str, values: &str) -> Result<Requirement, ReadEr
 
 /// `key in` or `key notin`, and the values.
 fn worded(alloc: Global, head: &str, values: &str) -> Result<Requirement, ReadError>
-    ensures { Gives requirement_of result (worded head.now values.now) }
+    ensures { Returns requirement_of result (worded head.now values.now) }
 {
     if let Some(key) = head.strip_suffix(" in") {
         among(alloc, key, values)
@@ -209,7 +209,7 @@ fn worded(alloc: Global, head: &str, values: &str) -> Result<Requirement, ReadEr
 
 /// What stands before an opening bracket and after it.
 fn set_of(alloc: Global, head: &str, inner: &str) -> Result<Requirement, ReadError>
-    ensures { Gives requirement_of result (set_of head.now inner.now) }
+    ensures { Returns requirement_of result (set_of head.now inner.now) }
 {
     match inner.split_once(')') {
         Some((values, after)) if after.is_empty() => {
@@ -220,7 +220,7 @@ fn set_of(alloc: Global, head: &str, inner: &str) -> Result<Requirement, ReadErr
 }
 
 fn equals(alloc: Global, key: &str, value: &str) -> Result<Requirement, ReadError>
-    ensures { Gives requirement_of result (signed key.now (Some (equal, value.now))) }
+    ensures { Returns requirement_of result (signed key.now (Some (equal, value.now))) }
 {
     let key = key_of(alloc, key)?;
     let condition = Condition::Equals(value_of(alloc, value)?);
@@ -228,7 +228,7 @@ fn equals(alloc: Global, key: &str, value: &str) -> Result<Requirement, ReadErro
 }
 
 fn differs(alloc: Global, key: &str, value: &str) -> Result<Requirement, ReadError>
-    ensures { Gives requirement_of result (signed key.now (Some (different, value.now))) }
+    ensures { Returns requirement_of result (signed key.now (Some (different, value.now))) }
 {
     let key = key_of(alloc, key)?;
     let condition = Condition::Differs(value_of(alloc, value)?);
@@ -236,7 +236,7 @@ fn differs(alloc: Global, key: &str, value: &str) -> Result<Requirement, ReadErr
 }
 
 fn about_key(alloc: Global, key: &str, condition: Condition) -> Result<Requirement, ReadError>
-    ensures { Gives requirement_of result (required key.now (Ok (condition_of condition))) }
+    ensures { Returns requirement_of result (required key.now (Ok (condition_of condition))) }
 {
     let key = key_of(alloc, key)?;
     Ok(Requirement { key, condition })
@@ -244,7 +244,7 @@ fn about_key(alloc: Global, key: &str, condition: Condition) -> Result<Requireme
 
 /// A part without brackets.
 fn plain_of(alloc: Global, part: &str) -> Result<Requirement, ReadError>
-    ensures { Gives requirement_of result (plain_of part.now) }
+    ensures { Returns requirement_of result (plain_of part.now) }
 {
     if part.is_empty() {
         return Err(ReadError::Fault(Fault::EmptyPart));
@@ -263,7 +263,7 @@ fn plain_of(alloc: Global, part: &str) -> Result<Requirement, ReadError>
 
 /// A part; blanks at its ends are ignored.
 pub(crate) fn part_of(alloc: Global, part: &str) -> Result<Requirement, ReadError>
-    ensures { Gives requirement_of result (part_of part.now) }
+    ensures { Returns requirement_of result (part_of part.now) }
 {
     match part.split_once('(') {
         Some((head, inner)) => set_of(alloc, head, inner),
@@ -273,7 +273,7 @@ pub(crate) fn part_of(alloc: Global, part: &str) -> Result<Requirement, ReadErro
 
 /// The parts between the commas outside brackets.
 pub(crate) fn parts_of(alloc: Global, text: &str) -> Result<Vec<Requirement>, ReadError>
-    ensures { Gives (λ v. map requirement_of v.items) result (parts_of text.now) }
+    ensures { Returns (λ v. map requirement_of v.items) result (parts_of text.now) }
 {
     let mut requirements = Vec::new(alloc);
     let mut rest = Some(text);

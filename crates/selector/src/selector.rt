@@ -1,7 +1,7 @@
 //! A list of requirements, all of which have to be met. One requirement stands in `requirement`.
 
 ghost use Rattle.std.specs.Prelude.{◌≡◌, ◌↔◌, [], true, IfOk};
-ghost use Rattle.selector.specs.Grammar.{Gives, parse_selector};
+ghost use Rattle.selector.specs.Grammar.{Returns, parse_selector};
 ghost use Rattle.selector.specs.Requirement.{selects};
 ghost use Rattle.selector.specs.Views.{labels_of};
 
@@ -45,7 +45,7 @@ impl Selector {
     /// Refused with its first fault: a bracket that isn't paired anywhere; then the parts from the left, of
     /// each its form, its key and its values in turn.
     pub fn read(alloc: Global, text: &str) -> Result<Selector, ReadError>
-        ensures { Gives (λ s. s) result (parse_selector text.now) }
+        ensures { Returns (λ s. s) result (parse_selector text.now) }
     {
         if text.is_empty() {
             return Ok(Selector::all(alloc));

@@ -29,7 +29,7 @@ pub(crate) fn has_paired_brackets(text: &str) -> bool
 
 /// The text up to the first comma outside brackets, and what comes after it, if there is one.
 pub(crate) fn first_part(text: &str) -> (&str, Option<&str>)
-    ensures front { result.0.now ≡ (first_part false text.now).0 }
+    ensures prefix { result.0.now ≡ (first_part false text.now).0 }
     ensures rest { option_map (λ r. r.now) result.1 ≡ (first_part false text.now).1 }
     ensures shorter { IfSome result.1 (λ r. length r.now < length text.now) }
 {

@@ -9,7 +9,7 @@ use Rattle.api_types.specs.TypesFile.{ServedShape}
 use Rattle.history.specs.History.{History}
 use Rattle.api_request.specs.Calls.{Answer, Call, Plan}
 use Rattle.verbs.specs.Machine.{after}
-use Rattle.verbs.specs.Seen.{Stands}
+use Rattle.verbs.specs.Views.{ApiRepresents}
 use Rattle.verbs.specs.Step.{planned, step, steps}
 use Rattle.verbs.specs.declared.api.Api.{Api}
 use Rattle.server_program.specs.declared.object_fault.ObjectFault.{ObjectFault}
@@ -24,12 +24,12 @@ error_is (Err x) e P is p = subst P (sym is) p
 
 -- a creation whose plan is answered as one, and whose change is made
 pub creates_by : (types : List ServedShape) (m : History) (line : List ℕ) (call : Call) (plan : Plan) (new : Api) → IsCreation types line call → plan ≡ planned types m call
-    → plan.answer.status ≡ 201 → Stands new types (after m plan.change) → Creates types m line new
+    → plan.answer.status ≡ 201 → ApiRepresents new types (after m plan.change) → Creates types m line new
 creates_by types m line call plan new creation is created stands = record {
   call = call;
   creation = creation;
   created = ap (λ (p : Plan). p.answer.status) (sym is) ∙ created;
-  stands = subst (λ (p : Plan). Stands new types (after m p.change)) is stands;
+  stands = subst (λ (p : Plan). ApiRepresents new types (after m p.change)) is stands;
 }
 
 -- ---- calls in turn, and one more
@@ -75,7 +75,7 @@ past_empty types m lines i d api lt empty before =
 
 -- a line's creation comes after the others
 pub with_creation : (types : List ServedShape) (m : History) (lines : List (Bor (List ℕ))) (i : ℕ) (d : Bor (List ℕ)) (old new : Api) → i < length lines → is_filled (slice_index_or lines i d).now ≡ true
-    → ((now : History) → Stands old types now → Creates types now (slice_index_or lines i d).now new)
+    → ((now : History) → ApiRepresents old types now → Creates types now (slice_index_or lines i d).now new)
     → CreatesAll types m (texts (take i lines)) old → CreatesAll types m (texts (take (i + 1) lines)) new
 with_creation types m lines i d old new lt full creates before =
     let line = (slice_index_or lines i d).now in
@@ -86,13 +86,13 @@ with_creation types m lines i d old new lt full creates before =
       calls = before.calls ++ made.call ∷ [];
       creations = subst (λ xs. AllZip (IsCreation types) xs (before.calls ++ made.call ∷ [])) (sym same) (zip_push (IsCreation types) _ before.calls line made.call before.creations made.creation);
       created = answers_more (λ a. a.status ≡ 201) types m before.calls made.call before.created made.created;
-      stands = subst (Stands new types) (sym (steps_more types m before.calls made.call)) made.stands;
+      stands = subst (ApiRepresents new types) (sym (steps_more types m before.calls made.call)) made.stands;
     }
 
 -- a line whose object isn't created is where it ends
 pub ends_at : (types : List ServedShape) (m : History) (lines : List (Bor (List ℕ))) (i : ℕ) (d : Bor (List ℕ)) (n : ℕ) (why : ObjectFault) (old new : Api)
     → i < length lines → is_filled (slice_index_or lines i d).now ≡ true → n ≡ i + 1 → new ≡ old
-    → ((now : History) → Stands old types now → IsRefused types now (slice_index_or lines i d).now why)
+    → ((now : History) → ApiRepresents old types now → IsRefused types now (slice_index_or lines i d).now why)
     → CreatesAll types m (texts (take i lines)) old → EndsAtLine types m (texts lines) n why new
 ends_at types m lines i d n why old new lt full counted same refused before = record {
   before = texts (take i lines);
@@ -101,6 +101,6 @@ ends_at types m lines i d n why old new lt full counted same refused before = re
   split = ap texts (sym (take-append-drop i lines) ∙ ap (λ xs. take i lines ++ xs) (drop-cons lines i d lt)) ∙ map-append (λ (l : Bor (List ℕ)). l.now) (take i lines) (slice_index_or lines i d ∷ drop (suc i) lines);
   place = counted ∙ ap (λ k. k + 1) (sym (length-map (take i lines) (λ (l : Bor (List ℕ)). l.now) ∙ length-take-le i lines (omega arith)));
   filled = λ e. let bad : true ≡ false = sym full ∙ ap is_filled e in cc;
-  so_far = record { calls = before.calls; creations = before.creations; created = before.created; stands = subst (λ a. Stands a types (steps types m before.calls).1) (sym same) before.stands };
+  so_far = record { calls = before.calls; creations = before.creations; created = before.created; stands = subst (λ a. ApiRepresents a types (steps types m before.calls).1) (sym same) before.stands };
   refused = refused (steps types m before.calls).1 before.stands;
 }

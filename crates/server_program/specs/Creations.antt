@@ -12,7 +12,7 @@ use Rattle.api_request.specs.Calls.{Call}
 use Rattle.api_request.specs.declared.admitting.AdmitFault.{AdmitFault}
 use Rattle.api_request.specs.declared.admitting.AdmitFault.TheVariants as admit_fault
 use Rattle.verbs.specs.declared.fault.Fault.TheVariants.{Memory}
-use Rattle.verbs.specs.Seen.{Stands}
+use Rattle.verbs.specs.Views.{ApiRepresents}
 use Rattle.verbs.specs.Step.{step, steps}
 use Rattle.verbs.specs.declared.api.Api.{Api}
 use Rattle.server_program.specs.declared.object_fault.ObjectFault.{ObjectFault}
@@ -52,7 +52,7 @@ pub record Creates (types : List ServedShape) (m : History) (line : List ℕ) (a
   pub call : Call
   pub creation : IsCreation types line call
   pub created : (step types m call).0.status ≡ 201
-  pub stands : Stands api types (step types m call).1
+  pub stands : ApiRepresents api types (step types m call).1
 
 -- why the line's object isn't created: it is no JSON, or its POST is answered otherwise; no more is said of other faults
 abbrev pub IsRefused : List ServedShape → History → List ℕ → ObjectFault → Type 0
@@ -79,7 +79,7 @@ pub record CreatesAll (types : List ServedShape) (m : History) (lines : List (Li
   pub calls : List Call
   pub creations : AllZip (IsCreation types) (filter is_filled lines) calls
   pub created : AllByRecursion (λ a. a.status ≡ 201) (steps types m calls).0
-  pub stands : Stands api types (steps types m calls).1
+  pub stands : ApiRepresents api types (steps types m calls).1
 
 -- the API is the one after the lines before line n, counted from 1, whose object isn't created
 pub record EndsAtLine (types : List ServedShape) (m : History) (lines : List (List ℕ)) (n : ℕ) (why : ObjectFault) (api : Api) : Type 0 where

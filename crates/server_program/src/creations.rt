@@ -2,10 +2,10 @@
 //! a call comes to stands in `verbs`.
 ghost use Rattle.std.specs.Prelude.{◌≡◌, ℕ, List, IfErr, IfOk, IfSome, OnErr, OnOk, Some, map, option_map, string_bytes};
 ghost use Rattle.serde_json.specs.View.{view};
-ghost use Rattle.api_request.specs.Seen.{call_of};
+ghost use Rattle.api_request.specs.Views.{call_of};
 ghost use Rattle.api_types.specs.TypesFile.{ServedShape};
 ghost use Rattle.history.specs.History.{History};
-ghost use Rattle.verbs.specs.Seen.{Stands, types_of};
+ghost use Rattle.verbs.specs.Views.{ApiRepresents, types_of};
 ghost use Rattle.server_program.specs.Creations.{Creates, CreatesAll, EndsAtLine, IsCreation, IsPathFor, IsRefused, lines_of, namespace_in, version_in};
 
 use crate::fault::ServerFault;
@@ -90,8 +90,8 @@ fn message_of(alloc: Global, status: &str) -> Result<String, AllocError> {
 
 /// Makes a call whose answer has to be that of a creation.
 fn make(alloc: Global, api: &mut Api, call: &Call) -> Result<(), ObjectFault>
-    ensures ok { (types : List ServedShape) (m : History) (line : List ℕ) → Stands api.old types m → IsCreation types line (call_of call.now) → OnOk result (Creates types m line api.new) }
-    ensures err { (types : List ServedShape) (m : History) (line : List ℕ) → Stands api.old types m → IsCreation types line (call_of call.now) → IfErr result (IsRefused types m line) }
+    ensures ok { (types : List ServedShape) (m : History) (line : List ℕ) → ApiRepresents api.old types m → IsCreation types line (call_of call.now) → OnOk result (Creates types m line api.new) }
+    ensures err { (types : List ServedShape) (m : History) (line : List ℕ) → ApiRepresents api.old types m → IsCreation types line (call_of call.now) → IfErr result (IsRefused types m line) }
     ensures unchanged { OnErr result (api.new ≡ api.old) }
 {
     let plan = api.plan(call)?;
@@ -105,8 +105,8 @@ fn make(alloc: Global, api: &mut Api, call: &Call) -> Result<(), ObjectFault>
 
 /// Creates the object that stands on a line. On an error nothing is changed.
 fn create(alloc: Global, api: &mut Api, line: &str) -> Result<(), ObjectFault>
-    ensures ok { (types : List ServedShape) (m : History) → Stands api.old types m → OnOk result (Creates types m line.now api.new) }
-    ensures err { (types : List ServedShape) (m : History) → Stands api.old types m → IfErr result (IsRefused types m line.now) }
+    ensures ok { (types : List ServedShape) (m : History) → ApiRepresents api.old types m → OnOk result (Creates types m line.now api.new) }
+    ensures err { (types : List ServedShape) (m : History) → ApiRepresents api.old types m → IfErr result (IsRefused types m line.now) }
     ensures unchanged { OnErr result (api.new ≡ api.old) }
 {
     let call = creation(alloc, api, line)?;
@@ -123,8 +123,8 @@ pub struct BadLine {
 
 /// Creates the objects of lines in turn; an empty line has none. It ends at the first that isn't created.
 pub fn create_all(alloc: Global, api: &mut Api, lines: &[&str]) -> Result<(), BadLine>
-    ensures ok { (types : List ServedShape) (m : History) → Stands api.old types m → OnOk result (CreatesAll types m (map (λ l. l.now) lines.now) api.new) }
-    ensures bad { (types : List ServedShape) (m : History) → Stands api.old types m → IfErr result (λ b. EndsAtLine types m (map (λ l. l.now) lines.now) b.number b.why api.new) }
+    ensures ok { (types : List ServedShape) (m : History) → ApiRepresents api.old types m → OnOk result (CreatesAll types m (map (λ l. l.now) lines.now) api.new) }
+    ensures bad { (types : List ServedShape) (m : History) → ApiRepresents api.old types m → IfErr result (λ b. EndsAtLine types m (map (λ l. l.now) lines.now) b.number b.why api.new) }
 {
     for (index, line) in lines.iter().enumerate() {
         if line.is_empty() {
@@ -155,7 +155,7 @@ fn fault_of_line(alloc: Global, path: &str, bad: BadLine) -> ServerFault {
 
 /// Creates the objects of the lines of a text; a fault names the file by its path, and the line.
 fn create_in(alloc: Global, api: &mut Api, path: &str, text: &str) -> Result<(), ServerFault>
-    ensures { (types : List ServedShape) (m : History) → Stands api.old types m → OnOk result (CreatesAll types m (lines_of text.now) api.new) }
+    ensures { (types : List ServedShape) (m : History) → ApiRepresents api.old types m → OnOk result (CreatesAll types m (lines_of text.now) api.new) }
 {
     let lines: Vec<&str> = text.split('\n').collect(alloc)?;
     match create_all(alloc, api, &lines) {

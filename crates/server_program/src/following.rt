@@ -99,7 +99,7 @@ impl<'a> FollowedFile<'a> {
         };
         match server.retype(observer, value, self.looked) {
             Ok(()) => {
-                self.tell_served(rt, server);
+                self.log_served(rt, server);
                 true
             }
             Err(fault) => {
@@ -109,7 +109,7 @@ impl<'a> FollowedFile<'a> {
         }
     }
 
-    fn tell_served<R: Eprint>(&self, rt: &R, server: &Server) {
+    fn log_served<R: Eprint>(&self, rt: &R, server: &Server) {
         if let Ok(revision) = server.revision() {
             let _ = eprintln!(rt; "types file {}: served at revision {revision}", self.path);
         }

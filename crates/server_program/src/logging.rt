@@ -120,18 +120,18 @@ fn push_line(
     text: &mut String,
     moment: Moment,
     asked: (u64, &[u8]),
-    told: &str,
+    reported: &str,
 ) -> Result<(), AllocError> {
     let (id, line) = asked;
     let seconds = moment.since_1970.as_secs();
     let millis = moment.since_1970.subsec_millis();
-    let front = format!(in alloc; "{seconds}.{millis:03} {id} ")?;
-    text.push_str(front.as_str())?;
+    let prefix = format!(in alloc; "{seconds}.{millis:03} {id} ")?;
+    text.push_str(prefix.as_str())?;
     push_word(text, line, 0)?;
     text.push(' ')?;
     push_word(text, line, 1)?;
     text.push(' ')?;
-    text.push_str(told)?;
+    text.push_str(reported)?;
     text.push('\n')
 }
 
@@ -205,13 +205,13 @@ impl Log {
     ) -> Result<String, AllocError> {
         let mut text = String::new(self.alloc);
         match failure_of(done) {
-            Some(fault) => self.tell_failure(event, fault, moment, &mut text)?,
-            None => self.tell(hub, event, moment, &mut text)?,
+            Some(fault) => self.log_failure(event, fault, moment, &mut text)?,
+            None => self.log(hub, event, moment, &mut text)?,
         }
         Ok(text)
     }
 
-    fn tell(
+    fn log(
         &mut self,
         hub: &Hub,
         event: &Event,
@@ -219,13 +219,13 @@ impl Log {
         text: &mut String,
     ) -> Result<(), AllocError> {
         match event {
-            Event::Open(id) => self.tell_opened(hub, *id, moment, text),
-            Event::In(id, piece) => self.tell_asked(hub, *id, piece, moment, text),
-            Event::Gone(id) => self.tell_gone(*id, moment, text),
-            Event::Pump(id, _) => self.tell_lines(hub, *id, moment, text),
+            Event::Open(id) => self.log_opened(hub, *id, moment, text),
+            Event::In(id, piece) => self.log_asked(hub, *id, piece, moment, text),
+            Event::Gone(id) => self.log_gone(*id, moment, text),
+            Event::Pump(id, _) => self.log_lines(hub, *id, moment, text),
             Event::Tick(_) => {
                 for id in &self.ids() {
-                    self.tell_lines(hub, *id, moment, text)?;
+                    self.log_lines(hub, *id, moment, text)?;
                 }
                 Ok(())
             }
@@ -233,7 +233,7 @@ impl Log {
         }
     }
 
-    fn tell_opened(
+    fn log_opened(
         &mut self,
         hub: &Hub,
         id: u64,
@@ -241,7 +241,7 @@ impl Log {
         text: &mut String,
     ) -> Result<(), AllocError> {
         if hub.ended(id) {
-            return self.tell_reply(hub.out(id), (id, b""), moment, text);
+            return self.log_reply(hub.out(id), (id, b""), moment, text);
         }
         let asked = Asked::new(self.alloc, moment.now);
         match self.asked.insert(id, asked) {
@@ -251,7 +251,7 @@ impl Log {
     }
 
     /// The line of a request: the reply's status, its bytes, and in how many microseconds it was made.
-    fn tell_reply(
+    fn log_reply(
         &self,
         out: &[u8],
         asked: (u64, &[u8]),
@@ -261,11 +261,11 @@ impl Log {
         let status = status_of(out);
         let count = out.len();
         let micros = moment.micros_since(self.began);
-        let told = format!(in self.alloc; "{status} {count} {micros}")?;
-        push_line(self.alloc, text, moment, asked, told.as_str())
+        let reported = format!(in self.alloc; "{status} {count} {micros}")?;
+        push_line(self.alloc, text, moment, asked, reported.as_str())
     }
 
-    fn tell_asked(
+    fn log_asked(
         &mut self,
         hub: &Hub,
         id: u64,
@@ -280,7 +280,7 @@ impl Log {
             asked.keep(piece)?;
             if !hub.wants(id) {
                 asked.is_watch = true;
-                self.tell_reply(hub.out(id), (id, &asked.line), moment, text)?;
+                self.log_reply(hub.out(id), (id, &asked.line), moment, text)?;
             }
         }
         self.keep(hub, id, asked)
@@ -297,7 +297,7 @@ impl Log {
         }
     }
 
-    fn tell_lines(
+    fn log_lines(
         &mut self,
         hub: &Hub,
         id: u64,
@@ -308,56 +308,80 @@ impl Log {
             asked.count(hub.out(id).get(asked.waiting..).unwrap_or(b""));
         }
         if hub.ended(id) {
-            return self.tell_gone(id, moment, text);
+            return self.log_gone(id, moment, text);
         }
         Ok(())
     }
 
     /// The line of a watch that is over: its lines, its bytes, and how many microseconds it was open; or of a request that has
     /// no reply.
-    fn tell_gone(&mut self, id: u64, moment: Moment, text: &mut String) -> Result<(), AllocError> {
+    fn log_gone(&mut self, id: u64, moment: Moment, text: &mut String) -> Result<(), AllocError> {
         let Some(asked) = self.asked.remove(&id) else {
             return Ok(());
         };
         if !asked.is_watch {
-            return self.tell_reply(b"", (id, &asked.line), moment, text);
+            return self.log_reply(b"", (id, &asked.line), moment, text);
         }
         let lines = asked.lines;
         let bytes = asked.bytes;
         let micros = moment.micros_since(asked.since);
-        let told = format!(in self.alloc; "ended {lines} {bytes} {micros}")?;
-        push_line(self.alloc, text, moment, (id, &asked.line), told.as_str())
+        let reported = format!(in self.alloc; "ended {lines} {bytes} {micros}")?;
+        push_line(
+            self.alloc,
+            text,
+            moment,
+            (id, &asked.line),
+            reported.as_str(),
+        )
     }
 
     /// The line of what failed, with what was asked.
-    fn tell_failure(
+    fn log_failure(
         &mut self,
         event: &Event,
         fault: HubFault,
         moment: Moment,
         text: &mut String,
     ) -> Result<(), AllocError> {
-        let told = format!(in self.alloc; "failed: {fault}")?;
+        let reported = format!(in self.alloc; "failed: {fault}")?;
         match event {
-            Event::Open(id) => push_line(self.alloc, text, moment, (*id, b""), told.as_str()),
+            Event::Open(id) => push_line(self.alloc, text, moment, (*id, b""), reported.as_str()),
             Event::In(id, piece) => {
                 let mut asked = self.taken(*id, moment);
                 asked.keep(piece)?;
-                push_line(self.alloc, text, moment, (*id, &asked.line), told.as_str())
+                push_line(
+                    self.alloc,
+                    text,
+                    moment,
+                    (*id, &asked.line),
+                    reported.as_str(),
+                )
             }
             Event::Gone(id) | Event::Pump(id, _) => {
                 let asked = self.taken(*id, moment);
-                push_line(self.alloc, text, moment, (*id, &asked.line), told.as_str())
+                push_line(
+                    self.alloc,
+                    text,
+                    moment,
+                    (*id, &asked.line),
+                    reported.as_str(),
+                )
             }
-            Event::Tick(_) => push_line(self.alloc, text, moment, (0, b"tick"), told.as_str()),
+            Event::Tick(_) => push_line(self.alloc, text, moment, (0, b"tick"), reported.as_str()),
             Event::Compact(_) => push_line(
                 self.alloc,
                 text,
                 moment,
                 (0, b"compaction"),
-                told.as_str(),
+                reported.as_str(),
             ),
-            Event::Retype(_) => push_line(self.alloc, text, moment, (0, b"types"), told.as_str()),
+            Event::Retype(_) => push_line(
+                self.alloc,
+                text,
+                moment,
+                (0, b"types"),
+                reported.as_str(),
+            ),
         }
     }
 

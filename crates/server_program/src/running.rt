@@ -16,7 +16,7 @@ use std::time::Instant;
 use verbs::Api;
 
 /// Tells the port that is listened on.
-fn tell_port<R: Print>(rt: &R, port: u16) -> Result<(), ServerFault> {
+fn log_port<R: Print>(rt: &R, port: u16) -> Result<(), ServerFault> {
     Ok(println!(rt; "listening on {}:{port}", Ipv4Addr::LOCALHOST).map_err(RunFault::Output)?)
 }
 
@@ -44,7 +44,7 @@ fn serve_in_turn<'a, R: Files + Net + Clock + Print + Eprint + AllocGlobal>(
 ) -> Result<(), ServerFault> {
     let listener = listener_on(rt, options.port)?;
     let port = listener.local_addr()?.port();
-    tell_port(rt, port)?;
+    log_port(rt, port)?;
     let mut witness = witness_of(rt, options)?;
     // It fails where the clock can't be read, and nowhere else.
     serve_all(rt, &mut witness, &listener, server, options.serve).map_err(ServerFault::Clock)
@@ -89,7 +89,7 @@ fn serve_at_once<'a, R: Files + Clock + Print + Eprint + AllocGlobal>(
     options: &ServerOptions<'a>,
 ) -> Result<(), ServerFault> {
     let port = server.port()?;
-    tell_port(rt, port)?;
+    log_port(rt, port)?;
     let mut witness = witness_of(rt, options)?;
     'turns: for _ in 0..u64::MAX {
         if server.over() >= options.serve {

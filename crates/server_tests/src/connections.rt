@@ -109,7 +109,7 @@ out 2 => HTTP/1.1 404 Not Found|$Content-Type: application/json|$Content-Length:
 stand 1 => 0 true false"#;
 
 /// The path, the query, the media type, the length and the bytes after the head.
-fn head_told(alloc: Global, head: &Head<'_>) -> Result<String, Fail> {
+fn head_in_words(alloc: Global, head: &Head<'_>) -> Result<String, Fail> {
     let path = path_of(head.request_target);
     let query = query_of(head.request_target);
     let media = str::from_utf8(checked_media(head).ok_or("no media type")?)?;
@@ -121,15 +121,15 @@ fn head_told(alloc: Global, head: &Head<'_>) -> Result<String, Fail> {
     Ok(format!(in alloc; "{path} {query} {media} {length} {rest}")?)
 }
 
-fn request_told(alloc: Global, request: &str) -> Result<String, Fail> {
+fn request_in_words(alloc: Global, request: &str) -> Result<String, Fail> {
     match read_head(request.as_bytes()) {
-        Decision::Accepted(head) => head_told(alloc, &head),
+        Decision::Accepted(head) => head_in_words(alloc, &head),
         _ => Err("no head".into()),
     }
 }
 
 /// The code of its reason, and the reason and message with which a request is refused.
-fn refusal_told(alloc: Global, refusal: Refusal) -> Result<String, Fail> {
+fn refusal_in_words(alloc: Global, refusal: Refusal) -> Result<String, Fail> {
     let code = refusal.reason().code();
     let denied = refusal.denied();
     let reason = denied.reason.text();
@@ -154,7 +154,7 @@ fn parts_of_requests_and_replies(rt: HostRuntime) -> Result<(), Fail> {
     let alloc = rt.alloc();
     let request =
         "\r\nDELETE /a?b=c HTTP/1.1\nHOST: x\r\ncontent-type: t/u\r\nContent-Length: 02\r\ncontent-length: 2\r\n\r\n{}more";
-    expect(request_told(alloc, request)?, "/a b=c t/u 2 {}more")?;
+    expect(request_in_words(alloc, request)?, "/a b=c t/u 2 {}more")?;
     let reply = reply_bytes(alloc, 405, Some("PATCH"), "{}")?;
     expect(
         String::from_str(alloc, str::from_utf8(&reply)?)?,
@@ -164,7 +164,7 @@ fn parts_of_requests_and_replies(rt: HostRuntime) -> Result<(), Fail> {
 
 /// Each refusal of a request that isn't read, as its Status tells it.
 #[test]
-fn refusals_are_told(rt: HostRuntime) -> Result<(), Fail> {
+fn refusals_are_in_words(rt: HostRuntime) -> Result<(), Fail> {
     for (refusal, wanted) in [
         (
             Refusal::HeadTooLarge,
@@ -201,7 +201,7 @@ fn refusals_are_told(rt: HostRuntime) -> Result<(), Fail> {
             "503 ServiceUnavailable, too many connections, none",
         ),
     ] {
-        expect(refusal_told(rt.alloc(), refusal)?, wanted)?;
+        expect(refusal_in_words(rt.alloc(), refusal)?, wanted)?;
     }
     Ok(())
 }

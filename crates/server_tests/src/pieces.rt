@@ -1,4 +1,4 @@
-//! Requests that come in pieces, or not whole: malformed and large ones cut at every place, and every front of what comes at
+//! Requests that come in pieces, or not whole: malformed and large ones cut at every place, and every prefix of what comes at
 //! each row of the other examples.
 
 /// `hub_rows` says what the rows are, and plays them.

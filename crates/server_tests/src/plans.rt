@@ -29,7 +29,7 @@ fn planned(alloc: Global, api: &mut Api, method: &str, body: Option<Body>) -> Re
 }
 
 /// The revision and the key of a change, and the text that it stores; or the status of an answer that changes nothing.
-fn told(alloc: Global, plan: &Plan) -> Result<String, Fail> {
+fn in_words(alloc: Global, plan: &Plan) -> Result<String, Fail> {
     let Some(change) = &plan.change else {
         let status = plan.answer.status;
         return Ok(format!(in alloc; "{status}")?);
@@ -43,8 +43,8 @@ fn told(alloc: Global, plan: &Plan) -> Result<String, Fail> {
     )?)
 }
 
-fn expect_told(alloc: Global, plan: &Plan, wanted: &str) -> Result<(), Fail> {
-    let text = told(alloc, plan)?;
+fn expect_in_words(alloc: Global, plan: &Plan, wanted: &str) -> Result<(), Fail> {
+    let text = in_words(alloc, plan)?;
     if text.as_str() == wanted {
         return Ok(());
     }
@@ -53,17 +53,17 @@ fn expect_told(alloc: Global, plan: &Plan, wanted: &str) -> Result<(), Fail> {
 
 fn expect_plans(alloc: Global, api: &mut Api) -> Result<(), Fail> {
     let body = Body::read(alloc, APPLY.as_bytes()).map_err(|_| "no JSON")?;
-    expect_told(alloc, &planned(alloc, api, "PATCH", Some(body))?, STORED)?;
-    expect_told(alloc, &planned(alloc, api, "GET", None)?, "404")
+    expect_in_words(alloc, &planned(alloc, api, "PATCH", Some(body))?, STORED)?;
+    expect_in_words(alloc, &planned(alloc, api, "GET", None)?, "404")
 }
 
 /// The API is not dropped, and no other function holds one.
 #[test]
-fn planned_changes_are_told(rt: HostRuntime) -> Result<(), Fail> {
+fn planned_changes_are_in_words(rt: HostRuntime) -> Result<(), Fail> {
     let alloc = rt.alloc();
     let types = Types::read(alloc, &Value::from_str(alloc, WIDGET_TYPES)?)?;
     let mut api = Api::new(alloc, types)?;
-    let told = expect_plans(alloc, &mut api);
+    let in_words = expect_plans(alloc, &mut api);
     mem::forget(api);
-    told
+    in_words
 }

@@ -1,4 +1,4 @@
--- What was taken of a connection stays a front of what was written on it.
+-- What was taken of a connection stays a prefix of what was written on it.
 use Rattle.std.proofs.Common.{◌≡◌, ◌≢◌, ℕ, ◌+◌, zero, suc, Bool, true, false, cond, List, [], ◌++◌, length, take, drop, min, Option, Some, None, refl, sym, ap, ap₂, subst, ◌∙◌, append_assoc, append-nil}
 use Rattle.std.specs.Prelude.{◌&&◌, option_map, unwrap_or, ⊤}
 use Rattle.std.specs.Cmp.{nat_cmp_total}
@@ -11,11 +11,11 @@ use Rattle.history.specs.History.{History}
 use Rattle.verbs.specs.Retyping.{retyping}
 use Rattle.verbs.specs.Step.{planned}
 use Rattle.requests.specs.Asks.{CallDecision}
-use Rattle.httpedge.specs.Connections.{Connection, Connections, Standing, waiting, watching, ended, gone, each, has_ended, is_new, is_open, left_out, opened, out_of, out_on, with_standing, with_taken, with_written}
+use Rattle.httpedge.specs.Connections.{Connection, Connections, Phase, waiting, watching, ended, gone, each, has_ended, is_new, is_open, left_out, new_connection, out_of, out_on, with_phase, with_taken, with_written}
 use Rattle.requests.specs.Decision.{undecided, refused, accepted}
 use Rattle.requests.specs.Refusals.{as_denied, too_many_connections}
-use Rattle.httpedge.specs.Runs.{Follows, Happening, happens, starves, takes}
-use Rattle.httpedge.specs.Steps.{Event, Refusal, State, id_not_above, opens, comes, goes, pumps, ticks, compacts, retypes, after_turn, answer_standing, standing_after, turn_bytes, by_connection, carried_out, connection_after, dead, dead_or_ticked, opening, received_by, refusal, starved, unless_refused, with_bytes_taken, with_connection, with_turn, writes_at}
+use Rattle.httpedge.specs.Runs.{Follows, Action, happens, runs_out_of_memory, takes}
+use Rattle.httpedge.specs.Steps.{Event, Refusal, State, id_not_above, opens, comes, goes, pumps, ticks, compacts, retypes, after_turn, answer_phase, phase_after, turn_bytes, by_connection, applied_event, connection_after, killed, killed_or_ticked, opening, received_by, refusal, out_of_memory, unless_refused, with_bytes_taken, with_connection, with_turn, writes_at}
 use Rattle.requests.specs.Replies.{answer_bytes, refusal_reply}
 use Rattle.httpedge.specs.Watches.{Turn, Watch, pumped, ticked}
 use Rattle.httpedge.proofs.Connected.{got_each, put_there, tied_same, unknown}
@@ -23,20 +23,20 @@ use Rattle.httpedge.proofs.OtherTypes.{same_connections}
 use Rattle.serving.specs.Turns.{IsGiven}
 
 -- nothing is taken of this connection
-abbrev pub TakesNone : Happening → ℕ → Type 0
+abbrev pub TakesNone : Action → ℕ → Type 0
 TakesNone (happens e) id = ⊤
-TakesNone (starves e which) id = ⊤
+TakesNone (runs_out_of_memory e which) id = ⊤
 TakesNone (takes k n) id = id ≢ k
 
 -- ---- one connection
 
-grown : (given : List ℕ) (c : Connection) (bytes : List ℕ) (st : Standing) → IsGiven given (Some c) → IsGiven given (Some (with_written c bytes st))
+grown : (given : List ℕ) (c : Connection) (bytes : List ℕ) (st : Phase) → IsGiven given (Some c) → IsGiven given (Some (with_written c bytes st))
 grown given c bytes st (taken, (rest, is)) = (taken, (rest ++ bytes, ap (λ (w : List ℕ). w ++ bytes) is ∙ append_assoc given rest bytes))
 
-stood : (given : List ℕ) (c : Connection) (st : Standing) → IsGiven given (Some c) → IsGiven given (Some (with_standing c st))
+stood : (given : List ℕ) (c : Connection) (st : Phase) → IsGiven given (Some c) → IsGiven given (Some (with_phase c st))
 stood given c st is = (is.0, is.1)
 
-opened_given : (given : List ℕ) (full : Bool) (bytes : List ℕ) → given ≡ [] → IsGiven given (Some (cond full (with_written opened bytes ended) opened))
+opened_given : (given : List ℕ) (full : Bool) (bytes : List ℕ) → given ≡ [] → IsGiven given (Some (cond full (with_written new_connection bytes ended) new_connection))
 opened_given given true bytes none = (ap length (sym none), (bytes, ap (λ (g : List ℕ). g ++ bytes) (sym none)))
 opened_given given false bytes none = (ap length (sym none), ([], ap (λ (g : List ℕ). g ++ []) (sym none)))
 
@@ -46,21 +46,21 @@ after_given given types m last_tick c bytes undecided is = stood given c (waitin
 after_given given types m last_tick c bytes (refused d) is = grown given c (refusal_reply d) ended is
 after_given given types m last_tick c bytes (accepted call) is =
     let a = (planned types m call).answer in
-    grown given c (answer_bytes a a.watch) (answer_standing last_tick a.watch) is
+    grown given c (answer_bytes a a.watch) (answer_phase last_tick a.watch) is
 
-turn_given : (given : List ℕ) (turn : Watch → Turn) (c : Connection) (st : Standing) → IsGiven given (Some c) → IsGiven given (Some (after_turn turn c st))
-turn_given given turn c (waiting front) is = is
-turn_given given turn c (watching w) is = grown given c (turn_bytes (turn w)) (standing_after (turn w).next) is
+turn_given : (given : List ℕ) (turn : Watch → Turn) (c : Connection) (st : Phase) → IsGiven given (Some c) → IsGiven given (Some (after_turn turn c st))
+turn_given given turn c (waiting prefix) is = is
+turn_given given turn c (watching w) is = grown given c (turn_bytes (turn w)) (phase_after (turn w).next) is
 turn_given given turn c ended is = is
 turn_given given turn c (gone had_ended) is = is
 
-dead_by : (given : List ℕ) (b : Bool) (c : Connection) → IsGiven given (Some c) → IsGiven given (Some (cond b (with_standing c ended) c))
+dead_by : (given : List ℕ) (b : Bool) (c : Connection) → IsGiven given (Some c) → IsGiven given (Some (cond b (with_phase c ended) c))
 dead_by given true c is = stood given c ended is
 dead_by given false c is = is
 
-dead_or : (given : List ℕ) (types : List ServedShape) (ms : ℕ) (b : Bool) (c : Connection) → IsGiven given (Some c) → IsGiven given (Some (cond b (dead c) (with_turn (ticked types ms) c)))
-dead_or given types ms true c is = dead_by given (is_open c.standing) c is
-dead_or given types ms false c is = turn_given given (ticked types ms) c c.standing is
+dead_or : (given : List ℕ) (types : List ServedShape) (ms : ℕ) (b : Bool) (c : Connection) → IsGiven given (Some c) → IsGiven given (Some (cond b (killed c) (with_turn (ticked types ms) c)))
+dead_or given types ms true c is = dead_by given (is_open c.phase) c is
+dead_or given types ms false c is = turn_given given (ticked types ms) c c.phase is
 
 -- ---- one of all connections
 
@@ -90,9 +90,9 @@ each_one : (given : List ℕ) (f : ℕ → Connection → Connection) (all : Con
     → IsGiven given (fin.get (each f all) q)
 each_one given f all q stays out = subst (IsGiven given) (sym (got_each f all q)) (each_by given f q (fin.get all q) stays out)
 
-received_one : (given : List ℕ) (s : State) (id q : ℕ) (c : Connection) (st : Standing) (bytes : List ℕ) (asked : CallDecision) → fin.get s.connections id ≡ Some c
+received_one : (given : List ℕ) (s : State) (id q : ℕ) (c : Connection) (st : Phase) (bytes : List ℕ) (asked : CallDecision) → fin.get s.connections id ≡ Some c
     → IsGiven given (fin.get s.connections q) → IsGiven given (fin.get (received_by s id c st bytes asked).connections q)
-received_one given s id q c (waiting front) bytes asked got out =
+received_one given s id q c (waiting prefix) bytes asked got out =
     put_one given s.connections id q _ (λ same. after_given given s.types s.machine s.last_tick c _ asked (this_one given s.connections id q (Some c) got out same)) out
 received_one given s id q c (watching w) bytes asked got out = out
 received_one given s id q c ended bytes asked got out = out
@@ -111,45 +111,45 @@ opened_one given s id q true new out =
 opened_one given s id q false new out = out
 
 stepped_one : (given : List ℕ) (s : State) (e : Event) (asked : CallDecision) (q : ℕ) → IsGiven given (fin.get s.connections q)
-    → IsGiven given (fin.get (unless_refused (refusal s e) s (carried_out s e asked)).connections q)
+    → IsGiven given (fin.get (unless_refused (refusal s e) s (applied_event s e asked)).connections q)
 stepped_one given s (opens id) asked q out = opened_one given s id q (is_new s.connections id) refl out
 stepped_one given s (comes id bytes) asked q out =
-    unless_one given s (carried_out s (comes id bytes) asked) (refusal s (comes id bytes)) q
-    (by_one given s q (fin.get s.connections id) _ out (λ c got. received_one given s id q c c.standing bytes asked got out)) out
+    unless_one given s (applied_event s (comes id bytes) asked) (refusal s (comes id bytes)) q
+    (by_one given s q (fin.get s.connections id) _ out (λ c got. received_one given s id q c c.phase bytes asked got out)) out
 stepped_one given s (goes id) asked q out =
-    unless_one given s (carried_out s (goes id) asked) (refusal s (goes id)) q
+    unless_one given s (applied_event s (goes id) asked) (refusal s (goes id)) q
     (by_one given s q (fin.get s.connections id) _ out
-    (λ c got. put_one given s.connections id q _ (λ same. stood given c (gone (has_ended c.standing)) (this_one given s.connections id q (Some c) got out same)) out)) out
+    (λ c got. put_one given s.connections id q _ (λ same. stood given c (gone (has_ended c.phase)) (this_one given s.connections id q (Some c) got out same)) out)) out
 stepped_one given s (pumps id max) asked q out =
     let turn = pumped s.machine max in
-    unless_one given s (carried_out s (pumps id max) asked) (refusal s (pumps id max)) q
+    unless_one given s (applied_event s (pumps id max) asked) (refusal s (pumps id max)) q
     (by_one given s q (fin.get s.connections id) _ out
-    (λ c got. put_one given s.connections id q (with_turn turn c) (λ same. turn_given given turn c c.standing (this_one given s.connections id q (Some c) got out same)) out)) out
+    (λ c got. put_one given s.connections id q (with_turn turn c) (λ same. turn_given given turn c c.phase (this_one given s.connections id q (Some c) got out same)) out)) out
 stepped_one given s (ticks ms) asked q out =
-    unless_one given s (carried_out s (ticks ms) asked) (refusal s (ticks ms)) q
-    (each_one given (λ id c. with_turn (ticked s.types ms) c) s.connections q (λ c is. turn_given given (ticked s.types ms) c c.standing is) out) out
-stepped_one given s (compacts c) asked q out = unless_one given s (carried_out s (compacts c) asked) (refusal s (compacts c)) q out out
+    unless_one given s (applied_event s (ticks ms) asked) (refusal s (ticks ms)) q
+    (each_one given (λ id c. with_turn (ticked s.types ms) c) s.connections q (λ c is. turn_given given (ticked s.types ms) c c.phase is) out) out
+stepped_one given s (compacts c) asked q out = unless_one given s (applied_event s (compacts c) asked) (refusal s (compacts c)) q out out
 stepped_one given s (retypes file) asked q out =
-    unless_one given s (carried_out s (retypes file) asked) (refusal s (retypes file)) q (subst (λ (all : Connections). IsGiven given (fin.get all q)) (sym (same_connections s (retyping s.types s.machine file))) out) out
+    unless_one given s (applied_event s (retypes file) asked) (refusal s (retypes file)) q (subst (λ (all : Connections). IsGiven given (fin.get all q)) (sym (same_connections s (retyping s.types s.machine file))) out) out
 
-starved_one : (given : List ℕ) (s : State) (e : Event) (which : ℕ → Bool) (q : ℕ) → IsGiven given (fin.get s.connections q) → IsGiven given (fin.get (starved s e which).connections q)
-starved_one given s (opens id) which q out = out
-starved_one given s (comes id bytes) which q out =
+out_of_memory_one : (given : List ℕ) (s : State) (e : Event) (which : ℕ → Bool) (q : ℕ) → IsGiven given (fin.get s.connections q) → IsGiven given (fin.get (out_of_memory s e which).connections q)
+out_of_memory_one given s (opens id) which q out = out
+out_of_memory_one given s (comes id bytes) which q out =
     by_one given s q (fin.get s.connections id) _ out
-    (λ c got. put_one given s.connections id q _ (λ same. dead_by given (is_open c.standing) c (this_one given s.connections id q (Some c) got out same)) out)
-starved_one given s (goes id) which q out = out
-starved_one given s (pumps id max) which q out =
+    (λ c got. put_one given s.connections id q _ (λ same. dead_by given (is_open c.phase) c (this_one given s.connections id q (Some c) got out same)) out)
+out_of_memory_one given s (goes id) which q out = out
+out_of_memory_one given s (pumps id max) which q out =
     by_one given s q (fin.get s.connections id) _ out
-    (λ c got. put_one given s.connections id q _ (λ same. dead_by given (is_open c.standing) c (this_one given s.connections id q (Some c) got out same)) out)
-starved_one given s (ticks ms) which q out =
-    each_one given (λ id c. dead_or_ticked s.types ms (which id) c) s.connections q (λ c is. dead_or given s.types ms (which q && writes_at ms c.standing) c is) out
-starved_one given s (compacts c) which q out = out
-starved_one given s (retypes file) which q out = out
+    (λ c got. put_one given s.connections id q _ (λ same. dead_by given (is_open c.phase) c (this_one given s.connections id q (Some c) got out same)) out)
+out_of_memory_one given s (ticks ms) which q out =
+    each_one given (λ id c. killed_or_ticked s.types ms (which id) c) s.connections q (λ c is. dead_or given s.types ms (which q && writes_at ms c.phase) c is) out
+out_of_memory_one given s (compacts c) which q out = out
+out_of_memory_one given s (retypes file) which q out = out
 
-pub given_stays : (given : List ℕ) (s t : State) (h : Happening) (q : ℕ) → TakesNone h q → IsGiven given (fin.get s.connections q) → Follows s h t → IsGiven given (fin.get t.connections q)
+pub given_stays : (given : List ℕ) (s t : State) (h : Action) (q : ℕ) → TakesNone h q → IsGiven given (fin.get s.connections q) → Follows s h t → IsGiven given (fin.get t.connections q)
 given_stays given s t (happens e) q none out (asked, asks, is) = subst (λ (x : State). IsGiven given (fin.get x.connections q)) (sym is) (stepped_one given s e asked q out)
-given_stays given s t (starves e which) q none out (unrefused, memory, is) =
-    subst (λ (x : State). IsGiven given (fin.get x.connections q)) (sym is) (starved_one given s e which q out)
+given_stays given s t (runs_out_of_memory e which) q none out (unrefused, memory, is) =
+    subst (λ (x : State). IsGiven given (fin.get x.connections q)) (sym is) (out_of_memory_one given s e which q out)
 given_stays given s t (takes id n) q none out is =
     subst (λ (x : State). IsGiven given (fin.get x.connections q)) (sym is)
     (by_one given s q (fin.get s.connections id) _ out (λ c got. put_one given s.connections id q _ (λ same. absurd (none same)) out))
@@ -160,24 +160,24 @@ none_taken : (n : ℕ) → take {A = ℕ} n [] ≡ []
 none_taken zero = refl
 none_taken (suc n) = refl
 
-front_taken : (taken n : ℕ) (written given rest out : List ℕ) → taken ≡ length given → written ≡ given ++ rest → drop taken written ≡ out
+prefix_taken : (taken n : ℕ) (written given rest out : List ℕ) → taken ≡ length given → written ≡ given ++ rest → drop taken written ≡ out
     → (more : List ℕ) × (written ≡ (given ++ take n out) ++ more)
-front_taken taken n written given rest out counts is outs =
+prefix_taken taken n written given rest out counts is outs =
     let same : rest ≡ out = sym (ap₂ drop counts is ∙ drop-append_seam given rest) ∙ outs in
     (drop n out, is ∙ ap (λ (r : List ℕ). given ++ r) (same ∙ sym (take-append-drop n out)) ∙ sym (append_assoc given (take n out) (drop n out)))
 
-rest_taken : (st : Standing) (taken n : ℕ) (written given rest out : List ℕ) → taken ≡ length given → written ≡ given ++ rest → left_out st (drop taken written) ≡ out
+rest_taken : (st : Phase) (taken n : ℕ) (written given rest out : List ℕ) → taken ≡ length given → written ≡ given ++ rest → left_out st (drop taken written) ≡ out
     → (more : List ℕ) × (written ≡ (given ++ take n out) ++ more)
-rest_taken (waiting front) taken n written given rest out counts is outs = front_taken taken n written given rest out counts is outs
-rest_taken (watching w) taken n written given rest out counts is outs = front_taken taken n written given rest out counts is outs
-rest_taken ended taken n written given rest out counts is outs = front_taken taken n written given rest out counts is outs
+rest_taken (waiting prefix) taken n written given rest out counts is outs = prefix_taken taken n written given rest out counts is outs
+rest_taken (watching w) taken n written given rest out counts is outs = prefix_taken taken n written given rest out counts is outs
+rest_taken ended taken n written given rest out counts is outs = prefix_taken taken n written given rest out counts is outs
 rest_taken (gone had_ended) taken n written given rest out counts is outs =
     (rest, is ∙ ap (λ (g : List ℕ). g ++ rest) (sym (append-nil given) ∙ ap (λ (x : List ℕ). given ++ x) (sym (none_taken n) ∙ ap (take n) outs)))
 
 more_given : (given : List ℕ) (c : Connection) (n : ℕ) (out : List ℕ) → IsGiven given (Some c) → out_of c ≡ out → IsGiven (given ++ take n out) (Some (with_taken c n))
 more_given given c n out (counts, (rest, is)) outs = (
   ap₂ (λ (a b : ℕ). a + b) counts (ap (λ (o : List ℕ). min n (length o)) outs ∙ sym (length-take n out)) ∙ sym (length-append given (take n out)),
-  rest_taken c.standing c.taken n c.written given rest out counts is outs,
+  rest_taken c.phase c.taken n c.written given rest out counts is outs,
 )
 
 taken_by : (given : List ℕ) (s : State) (id n : ℕ) (out : List ℕ) (o : Option Connection) → fin.get s.connections id ≡ o → IsGiven given o → unwrap_or (option_map out_of o) [] ≡ out

@@ -1,6 +1,6 @@
 mod Counting
 mod Givens
-mod Hearing
+mod Receiving
 mod Joining
 mod Keeping
 mod Rising

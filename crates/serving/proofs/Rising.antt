@@ -6,7 +6,7 @@ use Rattle.std.specs.Result.{is_ok}
 use Rattle.std.proofs.lemmas.Bool.{lt-ltb, ltb-true}
 use Rattle.std.proofs.lemmas.List.Folds.{list_all-append}
 use Rattle.serving.specs.Rising.{are_rising}
-use Rattle.serving.specs.ServerSeen.{with_kept}
+use Rattle.serving.specs.ServerViews.{with_kept}
 use Rattle.serving.proofs.Keeping.{kept_none, kept_one, no_watches}
 
 both : (a b : Bool) → (a && b) ≡ true → (a ≡ true) × (b ≡ true)

@@ -1,6 +1,6 @@
 pub mod Rising
 pub mod Rounds
-pub mod ServerSeen
+pub mod ServerViews
 pub mod Serving
 pub mod Tidies
 pub mod Turns

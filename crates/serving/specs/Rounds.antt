@@ -7,7 +7,7 @@ use Rattle.serving.specs.Turns.{Turns}
 -- a connection has its turn, and then it is tidied
 abbrev pub Round : ℕ → ℕ → State → State → Type 0
 Round keep lines s t =
-    (id : ℕ) × (heard : List ℕ) × (told : List ℕ) × (ids : List ℕ) × (ms : ℕ) × (served : State) × Turns id s heard told served × Tidies keep lines ids ms served t
+    (id : ℕ) × (received : List ℕ) × (sent_bytes : List ℕ) × (ids : List ℕ) × (ms : ℕ) × (served : State) × Turns id s received sent_bytes served × Tidies keep lines ids ms served t
 
 abbrev pub Rounds : ℕ → ℕ → ℕ → State → State → Type 0
 Rounds keep lines zero s t = t ≡ s

@@ -1,13 +1,13 @@
 -- What is done after each connection, in this order: the clock's tick, a compaction where it raises the compacted number, and the turn of each watch. So a
--- watch that the compaction overtook is told.
+-- watch that the compaction overtook is sent an error.
 use Rattle.std.specs.Prelude.{◌≡◌, ℕ, List, [], ◌∷◌}
 use Rattle.httpedge.specs.Steps.{State, pumps, ticks}
-use Rattle.httpedge.specs.Streams.{Compacts, Hands}
+use Rattle.httpedge.specs.StreamViews.{Compacts, Hands}
 use Rattle.serving.specs.Turns.{Turns}
 
 -- a watch may write so many lines, and then has its turn
 abbrev pub Pumps : ℕ → ℕ → State → State → Type 0
-Pumps lines id s t = (mid : State) × (told : List ℕ) × Hands (pumps id lines) s mid × Turns id mid [] told t
+Pumps lines id s t = (mid : State) × (sent_bytes : List ℕ) × Hands (pumps id lines) s mid × Turns id mid [] sent_bytes t
 
 -- one after another
 abbrev pub PumpsAll : ℕ → List ℕ → State → State → Type 0

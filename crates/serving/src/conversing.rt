@@ -2,7 +2,7 @@
 
 ghost use Rattle.std.specs.Prelude.{[], List, MatchResult, ℕ};
 ghost use Rattle.std.specs.Io.KnownBytes.{Appends, Consumes};
-ghost use Rattle.httpedge.specs.Streams.{MovesBy};
+ghost use Rattle.httpedge.specs.StreamViews.{MovesBy};
 ghost use Rattle.serving.specs.Serving.{Goes, HasTurn, HasTurns, IsPumped, ServesAll};
 
 use httpedge::{Event, Hub};
@@ -10,7 +10,7 @@ use observing::{Observer, hand};
 use std::alloc::Global;
 use std::io;
 use std::io::{ErrorKind, Read, Write};
-use wire::{read_piece, write_front};
+use wire::{read_piece, write_prefix};
 
 fn open<O: Observer>(hub: &mut Hub, observer: &mut O, id: u64) -> io::Result<()>
     ensures { HasTurns id hub.old [] [] hub.new }
@@ -47,7 +47,7 @@ fn hand_over<O: Observer, R: Read>(
     id: u64,
     reader: &mut R,
 ) -> io::Result<()>
-    ensures { (heard : List ℕ) × Consumes (R.remaining reader.old) (R.remaining reader.new) heard × HasTurns id hub.old heard [] hub.new }
+    ensures { (received : List ℕ) × Consumes (R.remaining reader.old) (R.remaining reader.new) received × HasTurns id hub.old received [] hub.new }
 {
     'pieces: for _ in 0..u64::MAX {
         if !hub.wants(id) {
@@ -66,10 +66,10 @@ fn hand_over<O: Observer, R: Read>(
 
 /// Writes what is out on the connection, and takes what the writer got.
 fn write_out<W: Write>(hub: &mut Hub, id: u64, writer: &mut W) -> io::Result<()>
-    ensures { (told : List ℕ) × Appends (W.contents writer.old) (W.contents writer.new) told × ServesAll result id hub.old [] told hub.new }
+    ensures { (sent_bytes : List ℕ) × Appends (W.contents writer.old) (W.contents writer.new) sent_bytes × ServesAll result id hub.old [] sent_bytes hub.new }
 {
     httpedge::bytes_are_taken();
-    let (count, done) = write_front(writer, hub.out(id));
+    let (count, done) = write_prefix(writer, hub.out(id));
     hub.take(id, count);
     done
 }
@@ -82,8 +82,8 @@ fn converse<O: Observer, R: Read, W: Write>(
     reader: &mut R,
     writer: &mut W,
 ) -> io::Result<()>
-    ensures { (heard : List ℕ) × (told : List ℕ) × Consumes (R.remaining reader.old) (R.remaining reader.new) heard
-        × Appends (W.contents writer.old) (W.contents writer.new) told × ServesAll result id hub.old heard told hub.new }
+    ensures { (received : List ℕ) × (sent_bytes : List ℕ) × Consumes (R.remaining reader.old) (R.remaining reader.new) received
+        × Appends (W.contents writer.old) (W.contents writer.new) sent_bytes × ServesAll result id hub.old received sent_bytes hub.new }
 {
     open(hub, observer, id)?;
     hand_over(alloc, hub, observer, id, reader)?;
@@ -101,8 +101,8 @@ pub fn turn<O: Observer, R: Read, W: Write>(
     reader: &mut R,
     writer: &mut W,
 ) -> io::Result<()>
-    ensures { (heard : List ℕ) × (told : List ℕ) × Consumes (R.remaining reader.old) (R.remaining reader.new) heard
-        × Appends (W.contents writer.old) (W.contents writer.new) told × HasTurn result id hub.old heard told hub.new }
+    ensures { (received : List ℕ) × (sent_bytes : List ℕ) × Consumes (R.remaining reader.old) (R.remaining reader.new) received
+        × Appends (W.contents writer.old) (W.contents writer.new) sent_bytes × HasTurn result id hub.old received sent_bytes hub.new }
 {
     let done = converse(alloc, hub, observer, id, reader, writer);
     if done.is_err() {
@@ -120,7 +120,7 @@ pub fn pump<O: Observer, W: Write>(
     max: u64,
     writer: &mut W,
 ) -> io::Result<()>
-    ensures { (told : List ℕ) × Appends (W.contents writer.old) (W.contents writer.new) told × MovesBy (IsPumped result id max told) hub.old hub.new }
+    ensures { (sent_bytes : List ℕ) × Appends (W.contents writer.old) (W.contents writer.new) sent_bytes × MovesBy (IsPumped result id max sent_bytes) hub.old hub.new }
 {
     hand(hub, observer, Event::Pump(id, max));
     let done = write_out(hub, id, writer);

@@ -2,8 +2,8 @@
 //! `conversing`.
 
 ghost use Rattle.std.specs.Prelude.{◌≡◌, ◌+◌, ◌≤◌, OnErr, OnOk};
-ghost use Rattle.serving.specs.ServerSeen.{hub_of, limits_of, next_of};
-ghost use Rattle.serving.specs.Serving.{DoesRounds, Leads, ServesOne};
+ghost use Rattle.serving.specs.ServerViews.{hub_of, limits_of, next_of};
+ghost use Rattle.serving.specs.Serving.{DoesRounds, Reaches, ServesOne};
 
 use crate::server::Server;
 use httpedge::LINGER;
@@ -117,7 +117,7 @@ where
     O: Observer,
     S: Read + Write + OpenStream + Drop,
     L: OpenListener<Stream = S>,
-    ensures leads { Leads (hub_of server.old) (hub_of server.new) }
+    ensures reaches { Reaches (hub_of server.old) (hub_of server.new) }
     ensures rounds { OnOk result (DoesRounds (limits_of server.old) (hub_of server.old) (hub_of server.new)) }
     ensures served { OnOk result (next_of server.new ≡ next_of server.old + most) }
 {

@@ -4,10 +4,10 @@
 ghost use Rattle.std.specs.Prelude.{◌≡◌, ◌+◌, ◌^◌, ◌<◌, ◌++◌, ◌∷◌, [], List, map, true};
 ghost use Rattle.api_types.specs.TypesFile.{ServedShape};
 ghost use Rattle.history.specs.History.{History};
-ghost use Rattle.verbs.specs.Seen.{Stands};
-ghost use Rattle.httpedge.specs.HubSeen.{IsIn};
+ghost use Rattle.verbs.specs.Views.{ApiRepresents};
+ghost use Rattle.httpedge.specs.HubViews.{HubRepresents};
 ghost use Rattle.httpedge.specs.Steps.{start};
-ghost use Rattle.httpedge.specs.Streams.{MovesBy};
+ghost use Rattle.httpedge.specs.StreamViews.{MovesBy};
 ghost use Rattle.serving.specs.Rising.{are_rising};
 ghost use Rattle.serving.specs.Serving.{HasTurns, Served};
 ghost use Rattle.serving.specs.Tidies.{PumpsAll, Tidies};
@@ -42,11 +42,11 @@ pub struct Server<W: Drop> {
 }
 
 impl<W: Write + Drop> Server<W> {
-    ghost use Rattle.serving.specs.ServerSeen.{hub_of, limits_of, next_of, watches_of, with_kept};
+    ghost use Rattle.serving.specs.ServerViews.{hub_of, limits_of, next_of, watches_of, with_kept};
 
     /// A server without connections.
     pub fn new(alloc: Global, api: Api, limits: Limits) -> Server<W>
-        ensures hub { (types : List ServedShape) (m : History) → Stands api types m → IsIn (hub_of result) (start types m) }
+        ensures hub { (types : List ServedShape) (m : History) → ApiRepresents api types m → HubRepresents (hub_of result) (start types m) }
         ensures limits { limits_of result ≡ limits }
         ensures next { next_of result ≡ 1 }
         ensures watches { watches_of result ≡ [] }

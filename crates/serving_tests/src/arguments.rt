@@ -24,7 +24,7 @@ fn shown(alloc: Global, words: &str) -> Result<String, Fail> {
 /// Whether this is shown; with `..` last it begins so.
 fn is_shown(shown: &str, wanted: &str) -> bool {
     match wanted.strip_suffix("..") {
-        Some(front) => shown.starts_with(front),
+        Some(prefix) => shown.starts_with(prefix),
         None => shown == wanted,
     }
 }

@@ -28,7 +28,7 @@ pub const APPLY: &str =
 pub const CREATED: &str =
     "HTTP/1.1 201 Created\r\nContent-Type: application/json\r\nContent-Length: 317\r\nConnection: close\r\n\r\n{\"apiVersion\":\"demo.example/v1\",\"kind\":\"Widget\",\"metadata\":{\"managedFields\":[{\"apiVersion\":\"demo.example/v1\",\"fieldsType\":\"FieldsV1\",\"fieldsV1\":{\"f:spec\":{\"f:image\":{},\"f:replicas\":{}}},\"manager\":\"alice\",\"operation\":\"Apply\"}],\"name\":\"w1\",\"namespace\":\"default\",\"resourceVersion\":\"2\"},\"spec\":{\"image\":\"a\",\"replicas\":3}}";
 
-/// The front of a request.
+/// The prefix of a request.
 pub const HALF: &str = "GET / HTTP/1.1\r\n";
 
 /// A watch of all widgets.
@@ -88,14 +88,19 @@ fn is_quiet(mut stream: &TcpStream) -> Result<bool, Fail> {
 }
 
 /// The test fails unless a stream gives just this text, and then its end or nothing for now.
-pub fn expect_heard(alloc: Global, stream: &TcpStream, text: &str, end: End) -> Result<(), Fail> {
+pub fn expect_received(
+    alloc: Global,
+    stream: &TcpStream,
+    text: &str,
+    end: End,
+) -> Result<(), Fail> {
     let mut bytes = Vec::new(alloc);
     let more = match end {
         End::Comes => 1,
         End::Stays => 0,
     };
-    let mut front = stream.take((text.len() as u64).saturating_add(more));
-    front.read_to_end(&mut bytes)?;
+    let mut prefix = stream.take((text.len() as u64).saturating_add(more));
+    prefix.read_to_end(&mut bytes)?;
     expect(
         bytes.as_slice() == text.as_bytes(),
         "another text was heard",

@@ -2,7 +2,7 @@
 //! Many at once are tested in `polled_loopback`, streams that fail in `turns`.
 
 use crate::given::{
-    ADDED, APPLY, BEFORE, CREATED, EXPIRED, End, HALF, NO_ITEMS, OVERTAKEN, WATCH, expect_heard,
+    ADDED, APPLY, BEFORE, CREATED, EXPIRED, End, HALF, NO_ITEMS, OVERTAKEN, WATCH, expect_received,
     fresh_api, sent,
 };
 use observing::Unobserved;
@@ -37,28 +37,28 @@ fn tried(
     rt: &HostRuntime,
     listener: &TcpListener,
     server: &mut Server<TcpStream>,
-    told: (&str, End),
+    in_words: (&str, End),
     before: &str,
 ) -> Result<(), Fail> {
     let addr = listener.local_addr()?;
-    let (watched, end) = told;
+    let (watched, end) = in_words;
     drop(sent(rt, addr, HALF)?);
     serve_one(rt, listener, server)?;
     drop(served(rt, listener, server, WATCH)?);
     let watching = served(rt, listener, server, WATCH)?;
     let applying = served(rt, listener, server, APPLY)?;
     let late = served(rt, listener, server, BEFORE)?;
-    expect_heard(rt.alloc(), &watching, watched, end)?;
-    expect_heard(rt.alloc(), &applying, CREATED, End::Comes)?;
-    expect_heard(rt.alloc(), &late, before, End::Comes)
+    expect_received(rt.alloc(), &watching, watched, end)?;
+    expect_received(rt.alloc(), &applying, CREATED, End::Comes)?;
+    expect_received(rt.alloc(), &late, before, End::Comes)
 }
 
 /// A server that keeps so many revisions. It is not dropped: a function that drops one takes a minute to prove.
-fn kept(rt: &HostRuntime, keep: u64, told: (&str, End), before: &str) -> Result<(), Fail> {
+fn kept(rt: &HostRuntime, keep: u64, in_words: (&str, End), before: &str) -> Result<(), Fail> {
     let listener = TcpListener::bind(rt, SocketAddr::from((Ipv4Addr::LOCALHOST, 0)))?;
     let limits = Limits { keep, lines: 500 };
     let mut server = Server::new(rt.alloc(), fresh_api(rt.alloc())?, limits);
-    let tried = tried(rt, &listener, &mut server, told, before);
+    let tried = tried(rt, &listener, &mut server, in_words, before);
     mem::forget(server);
     tried
 }

@@ -6,7 +6,7 @@ use mirror_program::{Loopback, MirrorOptions, ProgramFault, print_changes};
 use mirroring::Dial;
 use observing::Unobserved;
 use programs::Resource;
-use reflector::Trouble;
+use reflector::RelistReason;
 use serving::{Limits, Server, serve_all};
 use std::io::Write;
 use std::net::{Ipv4Addr, SocketAddr, TcpListener, TcpStream};
@@ -56,8 +56,8 @@ impl<'a> Dial for Beside<'a> {
         Ok(stream)
     }
 
-    fn given_up(&mut self, trouble: Trouble) {
-        self.dialer.given_up(trouble);
+    fn given_up(&mut self, relist_reason: RelistReason) {
+        self.dialer.given_up(relist_reason);
     }
 }
 

@@ -9,7 +9,7 @@
 //! | `hear K TEXT` | nothing: K gets this, and its end but where it is a watch |
 
 use crate::given::{
-    ADDED, APPLY, End, HALF, LIST, NO_ITEMS, OVERTAKEN, WATCH, expect_heard, fresh_api, sent,
+    ADDED, APPLY, End, HALF, LIST, NO_ITEMS, OVERTAKEN, WATCH, expect_received, fresh_api, sent,
 };
 use observing::Unobserved;
 use polling::{Options, Server};
@@ -59,7 +59,7 @@ fn step(
                 } else {
                     End::Comes
                 };
-                expect_heard(rt.alloc(), stream, text_named(name)?, ends)?;
+                expect_received(rt.alloc(), stream, text_named(name)?, ends)?;
             }
         }
     }

@@ -91,7 +91,7 @@ impl Observer for Kept {
 
 /// A request's event, by its name.
 fn named_event(alloc: Global, row: &str) -> Result<Event, Fail> {
-    let (front, name) = row.rsplit_once(' ').unwrap_or((row, ""));
+    let (prefix, name) = row.rsplit_once(' ').unwrap_or((row, ""));
     let text = match name {
         "list" => LIST,
         "watch" => WATCH,
@@ -99,7 +99,7 @@ fn named_event(alloc: Global, row: &str) -> Result<Event, Fail> {
         "half" => HALF,
         _ => return event_of(alloc, row),
     };
-    let (_, number) = front.split_once(' ').unwrap_or((front, ""));
+    let (_, number) = prefix.split_once(' ').unwrap_or((prefix, ""));
     let bytes = bytes_of(alloc, text)?;
     Ok(Event::In(number.parse::<u64>().unwrap_or(0), bytes))
 }

@@ -83,7 +83,7 @@ fn apply_all(alloc: Global, hub: &mut Hub, count: u64, size: usize) -> Result<()
 }
 
 /// The lines that turn after turn tells, until one tells none.
-fn lines_told(rt: &HostRuntime, hub: &mut Hub, id: u64) -> Result<String, Fail> {
+fn lines_in_words(rt: &HostRuntime, hub: &mut Hub, id: u64) -> Result<String, Fail> {
     let now = Instant::now(rt)?;
     let stream = Counting {
         request: WATCH.as_bytes(),
@@ -105,25 +105,25 @@ fn lines_told(rt: &HostRuntime, hub: &mut Hub, id: u64) -> Result<String, Fail> 
     Ok(text)
 }
 
-fn told_of(rt: &HostRuntime, hub: &mut Hub, row: &str) -> Result<String, Fail> {
+fn in_words_of(rt: &HostRuntime, hub: &mut Hub, row: &str) -> Result<String, Fail> {
     let (count, size) = row.split_once(' ').ok_or("no size")?;
     let count = count.parse::<u64>().unwrap_or(0);
     let size = size.parse::<usize>().unwrap_or(0);
     apply_all(rt.alloc(), hub, count, size)?;
-    lines_told(rt, hub, count)
+    lines_in_words(rt, hub, count)
 }
 
 /// The test fails unless the turns tell so many lines, on a hub of its own, which isn't dropped.
 fn expect_turns(rt: &HostRuntime, row: &str) -> Result<(), Fail> {
     let (asked, wanted) = row.split_once(" =>").ok_or("no lines are wanted")?;
     let mut hub = Hub::new(rt.alloc(), fresh_api(rt.alloc())?);
-    let told = told_of(rt, &mut hub, asked);
+    let in_words = in_words_of(rt, &mut hub, asked);
     mem::forget(hub);
-    let told = told?;
-    if told.as_str() == wanted {
+    let in_words = in_words?;
+    if in_words.as_str() == wanted {
         return Ok(());
     }
-    Err(Fail::new(format!(in rt.alloc(); "{asked} =>{told}")?))
+    Err(Fail::new(format!(in rt.alloc(); "{asked} =>{in_words}")?))
 }
 
 /// Small ones double, up to what is asked for (100); large ones are as many as 256 KiB hold, at least one.

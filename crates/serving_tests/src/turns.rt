@@ -97,13 +97,13 @@ fn fails_beside_another(
     hub: &mut Hub,
     id: u64,
     often: (usize, usize),
-    front: &[u8],
+    prefix: &[u8],
 ) -> Result<(), Fail> {
     let mut failing = Memory::new(rt.alloc(), LIST.as_bytes(), b"");
     let (reads, writes) = often;
     failing.reads = reads;
     failing.writes = writes;
-    expect_turns(rt, hub, id, failing, &[(Next::Over, front)])?;
+    expect_turns(rt, hub, id, failing, &[(Next::Over, prefix)])?;
     let other = Memory::new(rt.alloc(), LIST.as_bytes(), b"");
     let turns = [(Next::Reads, NO_ITEMS.as_bytes())];
     expect_turns(rt, hub, id.saturating_add(1), other, &turns)
@@ -118,8 +118,8 @@ fn fails_anywhere(rt: &HostRuntime, hub: &mut Hub) -> Result<(), Fail> {
     for writes in 0..NO_ITEMS.len().div_ceil(MOST) {
         let id = (writes as u64).saturating_mul(2).saturating_add(100);
         let taken = writes.saturating_mul(MOST);
-        let front = NO_ITEMS.as_bytes().get(..taken).unwrap_or(b"");
-        fails_beside_another(rt, hub, id, (PLENTY, writes), front)?;
+        let prefix = NO_ITEMS.as_bytes().get(..taken).unwrap_or(b"");
+        fails_beside_another(rt, hub, id, (PLENTY, writes), prefix)?;
     }
     Ok(())
 }
@@ -130,18 +130,18 @@ fn waiting_watch<'a>(
     hub: &mut Hub,
     peer: &mut Peer<Memory<'a>>,
 ) -> Result<(), Fail> {
-    let told = ADDED.as_bytes();
-    let front = told.get(..10).unwrap_or(told);
-    let head = told.get(..HEAD).unwrap_or(told);
-    expect_turn(rt, hub, 1, peer, (Turn::Look, Next::Writes, front))?;
+    let in_words = ADDED.as_bytes();
+    let prefix = in_words.get(..10).unwrap_or(in_words);
+    let head = in_words.get(..HEAD).unwrap_or(in_words);
+    expect_turn(rt, hub, 1, peer, (Turn::Look, Next::Writes, prefix))?;
     let applying = Memory::new(rt.alloc(), APPLY.as_bytes(), b"");
     expect_turns(rt, hub, 2, applying, &[(Next::Reads, CREATED.as_bytes())])?;
     let waiting = hub.out(1).len();
-    expect_turn(rt, hub, 1, peer, (Turn::Pump(500), Next::Writes, front))?;
+    expect_turn(rt, hub, 1, peer, (Turn::Pump(500), Next::Writes, prefix))?;
     expect(hub.out(1).len() == waiting, "a watch that waits was pumped")?;
     peer.stream.room = usize::MAX;
     expect_turn(rt, hub, 1, peer, (Turn::Look, Next::Reads, head))?;
-    expect_turn(rt, hub, 1, peer, (Turn::Pump(500), Next::Reads, told))
+    expect_turn(rt, hub, 1, peer, (Turn::Pump(500), Next::Reads, in_words))
 }
 
 fn watch_without_room(rt: &HostRuntime, hub: &mut Hub) -> Result<(), Fail> {
@@ -174,7 +174,7 @@ fn pump_one<'a>(hub: &mut Hub, id: u64, writer: &mut Memory<'a>) {
 
 /// Three connections one after another, the first of a stream that may fail; then each watch has its turn. The first takes
 /// so many bytes of a watch, and the others all of theirs.
-fn expect_told(
+fn expect_in_words(
     alloc: Global,
     hub: &mut Hub,
     request: &str,
@@ -191,15 +191,15 @@ fn expect_told(
     ask(alloc, hub, 3, APPLY.as_bytes(), PLENTY, &mut apply);
     pump_one(hub, 1, &mut failing);
     pump_one(hub, 2, &mut watch);
-    let is_front = ADDED.as_bytes().starts_with(&failing.taken) && failing.taken.len() == most;
+    let is_prefix = ADDED.as_bytes().starts_with(&failing.taken) && failing.taken.len() == most;
     let is_whole = watch.taken.as_slice() == ADDED.as_bytes()
         && apply.taken.as_slice() == CREATED.as_bytes();
-    expect(is_front && is_whole, "a stream took something else")
+    expect(is_prefix && is_whole, "a stream took something else")
 }
 
 /// Two watches of many at once, the first of a stream that fails once it was written so often; then an apply, and each has its
 /// turn. The first takes so many bytes, and the others all of theirs.
-fn expect_all_told(
+fn expect_all_in_words(
     rt: &HostRuntime,
     hub: &mut Hub,
     writes: usize,
@@ -218,9 +218,9 @@ fn expect_all_told(
     let _ = failing.pump(hub, &mut Unobserved, 1, 1, now);
     let _ = watch.pump(hub, &mut Unobserved, 2, 1, now);
     let taken = failing.stream.taken.as_slice();
-    let is_front = ADDED.as_bytes().starts_with(taken) && taken.len() == most;
+    let is_prefix = ADDED.as_bytes().starts_with(taken) && taken.len() == most;
     let is_whole = watch.stream.taken.as_slice() == ADDED.as_bytes();
-    expect(is_front && is_whole, "a watch took something else")
+    expect(is_prefix && is_whole, "a watch took something else")
 }
 
 /// What a fresh hub is tried by.
@@ -244,11 +244,11 @@ fn tried_on(rt: &HostRuntime, hub: &mut Hub, trial: Trial) -> Result<(), Fail> {
         Trial::Room => waits_anywhere(rt, hub),
         Trial::Failures => fails_anywhere(rt, hub),
         Trial::Watch => watch_without_room(rt, hub),
-        Trial::Half => expect_told(rt.alloc(), hub, HALF, (PLENTY, PLENTY), 0),
+        Trial::Half => expect_in_words(rt.alloc(), hub, HALF, (PLENTY, PLENTY), 0),
         Trial::Failing(reads, writes, most) => {
-            expect_told(rt.alloc(), hub, WATCH, (reads, writes), most)
+            expect_in_words(rt.alloc(), hub, WATCH, (reads, writes), most)
         }
-        Trial::FailingAmongMany(writes, most) => expect_all_told(rt, hub, writes, most),
+        Trial::FailingAmongMany(writes, most) => expect_all_in_words(rt, hub, writes, most),
     }
 }
 

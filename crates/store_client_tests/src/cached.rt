@@ -18,7 +18,7 @@ use std::alloc::{AllocError, Global};
 use std::collections::BTreeMap;
 use std::rc::{Rc, RcStr};
 use std::test::Fail;
-use test_rows::{Answers, expect_text, first_word, mark, number, play, told};
+use test_rows::{Answers, expect_text, first_word, in_words, mark, number, play};
 
 /// By the object's text, told twice, or by its namespace.
 #[derive(Drop)]
@@ -88,12 +88,12 @@ impl Answers for Cached {
         let (one, other) = first_word(words);
         let indexer = &mut self.indexer;
         match call {
-            "put" => told(alloc, indexer.put(object(alloc, words)?)),
-            "replace" => told(alloc, indexer.replace(objects(alloc, words)?)),
+            "put" => in_words(alloc, indexer.put(object(alloc, words)?)),
+            "replace" => in_words(alloc, indexer.replace(objects(alloc, words)?)),
             "anew" => anew(alloc, indexer, one, other),
-            "under" => told(alloc, indexer.by_index(one, other)),
-            "keys" => told(alloc, indexer.keys(one)),
-            "twice" => told(alloc, Indexer::new(alloc, two_of_one_name(alloc)?).err()),
+            "under" => in_words(alloc, indexer.by_index(one, other)),
+            "keys" => in_words(alloc, indexer.keys(one)),
+            "twice" => in_words(alloc, Indexer::new(alloc, two_of_one_name(alloc)?).err()),
             _ => answer_of_key(alloc, indexer, call, one),
         }
     }
@@ -110,8 +110,8 @@ fn answer_of_key(
         name: RcStr::from_str(alloc, name)?,
     };
     match call {
-        "remove" => told(alloc, indexer.remove(&key)),
-        "get" => told(alloc, indexer.get(&key)),
+        "remove" => in_words(alloc, indexer.remove(&key)),
+        "get" => in_words(alloc, indexer.get(&key)),
         _ => Err("no such call".into()),
     }
 }
@@ -128,7 +128,7 @@ fn two_of_one_name(alloc: Global) -> Result<Vec<Box<dyn IndexBy>>, AllocError> {
 fn seen(alloc: Global, indexer: &Indexer<By>) -> Result<String, Fail> {
     let namespace = indexer.by_index("namespace", "default");
     let (x, y) = (indexer.by_index("text", "x"), indexer.by_index("text", "y"));
-    told(alloc, (indexer.objects(), namespace, x, y))
+    in_words(alloc, (indexer.objects(), namespace, x, y))
 }
 
 /// Puts the last of the objects, or keeps just these. Whether memory sufficed.
@@ -150,10 +150,10 @@ fn anew(alloc: Global, indexer: &mut Indexer<By>, call: &str, words: &str) -> Re
     let is_done = change(indexer, call, made);
     mark(alloc)?;
     if is_done {
-        return told(alloc, true);
+        return in_words(alloc, true);
     }
     expect_text(seen(alloc, indexer)?, before.as_str())?;
-    told(alloc, change(indexer, call, objects(alloc, words)?))
+    in_words(alloc, change(indexer, call, objects(alloc, words)?))
 }
 
 const EXAMPLES: &str = r#"indexer an_index_follows_a_change

@@ -6,7 +6,7 @@
 use decoder::{Source, Wanted, read_line, read_page};
 use std::alloc::{AllocError, Global};
 use std::test::Fail;
-use test_rows::{Answers, first_word, play_all, told};
+use test_rows::{Answers, first_word, in_words, play_all};
 
 #[derive(Drop)]
 struct Decoded;
@@ -19,11 +19,11 @@ impl Answers for Decoded {
             wanted.namespace = None;
         }
         match what {
-            "line" | "any" => told(alloc, read_line(alloc, &wanted, text.as_bytes())),
-            "page" => told(alloc, read_page(alloc, &wanted, text.as_bytes())),
+            "line" | "any" => in_words(alloc, read_line(alloc, &wanted, text.as_bytes())),
+            "page" => in_words(alloc, read_page(alloc, &wanted, text.as_bytes())),
             _ => {
                 let line = format!(in alloc; "{{\"type\":\"ADDED\",\"object\":{text}}}")?;
-                told(alloc, read_line(alloc, &wanted, line.as_bytes()))
+                in_words(alloc, read_line(alloc, &wanted, line.as_bytes()))
             }
         }
     }

@@ -13,7 +13,7 @@ use names::{
 };
 use std::alloc::Global;
 use std::test::Fail;
-use test_rows::{Answers, first_word, number, play_all, told};
+use test_rows::{Answers, first_word, in_words, number, play_all};
 
 #[derive(Drop)]
 struct Names;
@@ -23,10 +23,10 @@ impl Answers for Names {
         let (call, text) = first_word(question);
         let (max, decimal) = first_word(text);
         match call {
-            "object" => told(alloc, (is_dns_label(text), is_dns_subdomain(text))),
-            "label" => told(alloc, (is_label_key(text), is_label_value(text))),
-            "version" => told(alloc, version_of(text)),
-            "decimal" => told(alloc, decimal_up_to(number(max)?, decimal)),
+            "object" => in_words(alloc, (is_dns_label(text), is_dns_subdomain(text))),
+            "label" => in_words(alloc, (is_label_key(text), is_label_value(text))),
+            "version" => in_words(alloc, version_of(text)),
+            "decimal" => in_words(alloc, decimal_up_to(number(max)?, decimal)),
             _ => Err("no such call".into()),
         }
     }

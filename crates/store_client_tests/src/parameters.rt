@@ -12,7 +12,7 @@ use crate::selectors::takes;
 use params::{Asked, Params, ParamsFault, Token};
 use std::alloc::Global;
 use std::test::Fail;
-use test_rows::{Answers, play_all, told};
+use test_rows::{Answers, in_words, play_all};
 
 #[derive(Drop)]
 struct Readings;
@@ -38,11 +38,11 @@ fn read(alloc: Global, asked: Asked, query: &str) -> Result<Params, ParamsFault>
 
 fn shown(alloc: Global, read: Result<Params, ParamsFault>) -> Result<String, Fail> {
     match read {
-        Ok(it) => told(
+        Ok(it) => in_words(
             alloc,
             (it.watch, it.version, it.is_forced, it.manager.as_str()),
         ),
-        Err(fault) => told(alloc, fault),
+        Err(fault) => in_words(alloc, fault),
     }
 }
 
@@ -54,20 +54,20 @@ fn answer_of_list(
     match read {
         Ok(it) if call == "tiers" => selected(alloc, it),
         Ok(it) if call == "token" => token(alloc, &it.token),
-        Ok(it) => told(alloc, (it.limit, it.version, it.version_match)),
+        Ok(it) => in_words(alloc, (it.limit, it.version, it.version_match)),
         Err(fault) => Ok(format!(in alloc; "{fault}")?),
     }
 }
 
 fn selected(alloc: Global, params: &Params) -> Result<String, Fail> {
     let web = takes(alloc, &params.selector, "tier=web")?;
-    told(alloc, (web, takes(alloc, &params.selector, "tier=db")?))
+    in_words(alloc, (web, takes(alloc, &params.selector, "tier=db")?))
 }
 
 fn token(alloc: Global, token: &Option<Token>) -> Result<String, Fail> {
     match token {
-        Some(it) => told(alloc, (it, it.text(alloc)?)),
-        None => told(alloc, token),
+        Some(it) => in_words(alloc, (it, it.text(alloc)?)),
+        None => in_words(alloc, token),
     }
 }
 

@@ -14,7 +14,7 @@
 
 use std::alloc::{AllocError, Global};
 use std::test::Fail;
-use test_rows::{Answers, first_word, number, play_all, told};
+use test_rows::{Answers, first_word, in_words, number, play_all};
 use wireclient::{Item, ReadFault, ReplyReader, request_bytes};
 
 const LENGTH: &str = "HTTP/1.1 200 OK\r\nContent-Length: ";
@@ -28,10 +28,10 @@ impl Answers for Wire {
     fn answer(&mut self, alloc: Global, question: &str) -> Result<String, Fail> {
         let (call, text) = first_word(question);
         match call {
-            "reply" => told_however_cut(alloc, unfolded(alloc, text)?.as_str()),
-            "bad" => told_after_a_bad_byte(alloc),
+            "reply" => in_words_however_cut(alloc, unfolded(alloc, text)?.as_str()),
+            "bad" => in_words_after_a_bad_byte(alloc),
             "request" => request(alloc, text),
-            _ => told_of_filled(alloc, call, filled(alloc, text)?.as_str()),
+            _ => in_words_of_filled(alloc, call, filled(alloc, text)?.as_str()),
         }
     }
 }
@@ -57,11 +57,11 @@ fn unfolded(alloc: Global, line: &str) -> Result<String, AllocError> {
 
 /// The reply of `FRONT~COUNT PIECE~BACK`.
 fn filled(alloc: Global, line: &str) -> Result<String, Fail> {
-    let (front, line) = line.split_once('~').ok_or("no piece")?;
+    let (prefix, line) = line.split_once('~').ok_or("no piece")?;
     let (pieces, back) = line.split_once('~').ok_or("no back")?;
     let (count, piece) = first_word(pieces);
     let pieces = piece.repeat(alloc, number(count)? as usize)?;
-    let line = format!(in alloc; "{front}{pieces}{back}")?;
+    let line = format!(in alloc; "{prefix}{pieces}{back}")?;
     Ok(unfolded(alloc, line.as_str())?)
 }
 
@@ -83,7 +83,7 @@ fn push_item(alloc: Global, text: &mut String, item: &Item) -> Result<(), AllocE
 }
 
 /// Puts what a reader tells of a piece; after a bad byte that is nothing.
-fn push_told(
+fn push_in_words(
     alloc: Global,
     text: &mut String,
     reader: &mut ReplyReader,
@@ -102,44 +102,44 @@ fn push_told(
 }
 
 /// What a reader tells of the reply, which comes in two pieces.
-fn told_in_two(alloc: Global, reply: &str, cut: usize) -> Result<String, AllocError> {
+fn in_words_in_two(alloc: Global, reply: &str, cut: usize) -> Result<String, AllocError> {
     let mut reader = ReplyReader::new(alloc);
     let mut text = String::from_str(alloc, "told")?;
     let bytes = reply.as_bytes();
-    let (front, back) = bytes.split_at(cut.min(bytes.len()));
-    push_told(alloc, &mut text, &mut reader, front)?;
-    push_told(alloc, &mut text, &mut reader, back)?;
+    let (prefix, back) = bytes.split_at(cut.min(bytes.len()));
+    push_in_words(alloc, &mut text, &mut reader, prefix)?;
+    push_in_words(alloc, &mut text, &mut reader, back)?;
     Ok(text)
 }
 
 /// What a reader tells of the reply byte by byte, if it tells the same of two pieces, wherever the reply is cut.
-fn told_however_cut(alloc: Global, reply: &str) -> Result<String, Fail> {
+fn in_words_however_cut(alloc: Global, reply: &str) -> Result<String, Fail> {
     let mut reader = ReplyReader::new(alloc);
     let mut text = String::from_str(alloc, "told")?;
     for piece in reply.as_bytes().chunks(1) {
-        push_told(alloc, &mut text, &mut reader, piece)?;
+        push_in_words(alloc, &mut text, &mut reader, piece)?;
     }
     for cut in 0..=reply.len() {
-        if told_in_two(alloc, reply, cut)?.as_str() != text.as_str() {
+        if in_words_in_two(alloc, reply, cut)?.as_str() != text.as_str() {
             return Err("cut otherwise, it is told otherwise".into());
         }
     }
     Ok(text)
 }
 
-fn told_after_a_bad_byte(alloc: Global) -> Result<String, Fail> {
+fn in_words_after_a_bad_byte(alloc: Global) -> Result<String, Fail> {
     let mut reader = ReplyReader::new(alloc);
     let bad = reader.feed(b"HTTP/1.1 200 OK\r\n\r\nabc");
-    told(alloc, (bad, reader.feed(b"abc"), reader.feed(b"")))
+    in_words(alloc, (bad, reader.feed(b"abc"), reader.feed(b"")))
 }
 
-fn told_of_filled(alloc: Global, call: &str, reply: &str) -> Result<String, Fail> {
+fn in_words_of_filled(alloc: Global, call: &str, reply: &str) -> Result<String, Fail> {
     match call {
-        "once" => Ok(told_in_two(alloc, reply, 1)?),
-        "limit" => told(alloc, bytes_to_malformed(alloc, reply)),
+        "once" => Ok(in_words_in_two(alloc, reply, 1)?),
+        "limit" => in_words(alloc, bytes_to_malformed(alloc, reply)),
         "line" => {
             let items = ReplyReader::new(alloc).feed(reply.as_bytes())?;
-            told(alloc, (items.len(), items.last()))
+            in_words(alloc, (items.len(), items.last()))
         }
         _ => Err("no such call".into()),
     }
@@ -165,7 +165,7 @@ fn request(alloc: Global, words: &str) -> Result<String, Fail> {
         Some(content.as_bytes())
     };
     let bytes = request_bytes(alloc, method, target, media, body)?;
-    told(alloc, str::from_utf8(&bytes))
+    in_words(alloc, str::from_utf8(&bytes))
 }
 
 const EXAMPLES: &str = r#"a_reply_is_told_the_same_however_it_is_cut

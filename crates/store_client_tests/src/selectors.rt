@@ -10,7 +10,7 @@ use selector::Selector;
 use std::alloc::Global;
 use std::collections::BTreeMap;
 use std::test::Fail;
-use test_rows::{Answers, first_word, play_all, told};
+use test_rows::{Answers, first_word, in_words, play_all};
 
 #[derive(Drop)]
 struct Selectors;
@@ -21,7 +21,7 @@ impl Answers for Selectors {
         let text = text.trim_start_matches('{').trim_end_matches('}');
         match call {
             "select" => selected(alloc, text),
-            "fault" => told(alloc, Selector::read(alloc, text).err()),
+            "fault" => in_words(alloc, Selector::read(alloc, text).err()),
             _ => Err("no such call".into()),
         }
     }
@@ -40,8 +40,8 @@ pub fn takes(alloc: Global, selector: &Selector, words: &str) -> Result<bool, Fa
 
 fn selected(alloc: Global, text: &str) -> Result<String, Fail> {
     let selector = Selector::read(alloc, text)?;
-    let front = takes(alloc, &selector, "environment=production,tier=frontend")?;
-    told(alloc, (front, takes(alloc, &selector, "partition=")?))
+    let prefix = takes(alloc, &selector, "environment=production,tier=frontend")?;
+    in_words(alloc, (prefix, takes(alloc, &selector, "partition=")?))
 }
 
 const EXAMPLES: &str = r#"selects_by_every_kind_of_part

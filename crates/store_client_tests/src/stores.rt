@@ -21,7 +21,7 @@ use std::alloc::{AllocError, Global};
 use std::cell::Cell;
 use std::mem;
 use std::test::Fail;
-use test_rows::{Answers, expect_text, first_word, mark, number, play, told};
+use test_rows::{Answers, expect_text, first_word, in_words, mark, number, play};
 
 /// Whether there was an object; then it is erased.
 fn erase(store: &mut Store, key: &Key) -> Result<bool, WriteFault> {
@@ -80,7 +80,7 @@ fn write_both(
             body: Some(other.1),
         },
     ];
-    told(alloc, store.write_all(&writes))
+    in_words(alloc, store.write_all(&writes))
 }
 
 fn both(alloc: Global, store: &mut Store, name: &str, body: &str) -> Result<String, Fail> {
@@ -95,7 +95,7 @@ fn kept(alloc: Global, store: &mut Store, revision: u64, max: u64) -> Result<Str
         asked: Cell::new(0),
     };
     let found = store.first_kept(7, None, revision, None, max, &keep);
-    told(alloc, (found, keep.asked.get()))
+    in_words(alloc, (found, keep.asked.get()))
 }
 
 /// What answers by a store.
@@ -110,12 +110,12 @@ impl Answers for Stored {
         let (one, other) = first_word(words);
         let store = &mut self.store;
         match call {
-            "numbers" => told(alloc, (store.current(), store.compacted())),
+            "numbers" => in_words(alloc, (store.current(), store.compacted())),
             "seen" => seen(alloc, store),
             "kept" => kept(alloc, store, number(one)?, number(other)?),
-            "list" => told(alloc, store.list_at(7, None, number(one)?, None, 10)),
-            "changes" => told(alloc, store.changes(7, Some("default"), number(one)?, 10)),
-            "compact" => told(alloc, store.compact(number(one)?)),
+            "list" => in_words(alloc, store.list_at(7, None, number(one)?, None, 10)),
+            "changes" => in_words(alloc, store.changes(7, Some("default"), number(one)?, 10)),
+            "compact" => in_words(alloc, store.compact(number(one)?)),
             "anew" => anew(alloc, store, one, other),
             "both" => both(alloc, store, one, other),
             _ => answer_of_key(alloc, store, call, &key(alloc, one)?, other),
@@ -131,22 +131,23 @@ fn answer_of_key(
     word: &str,
 ) -> Result<String, Fail> {
     match call {
-        "write" => told(alloc, store.write(key, Some(word))),
-        "erase" => told(alloc, erase(store, key)),
-        "get" => told(alloc, store.get(key)),
-        "before" => told(alloc, before(store, key, number(word)?)),
+        "write" => in_words(alloc, store.write(key, Some(word))),
+        "erase" => in_words(alloc, erase(store, key)),
+        "get" => in_words(alloc, store.get(key)),
+        "before" => in_words(alloc, before(store, key, number(word)?)),
         _ => Err("no such call".into()),
     }
 }
 
-/// All that can be seen: the numbers, what stood at the first and at the last of the two, and the changes
-/// between them.
+/// All that can be seen: the numbers, what stood at the first and at the last of the two, the changes between them, and what
+/// stands under `a` and `b`.
 fn seen(alloc: Global, store: &mut Store) -> Result<String, Fail> {
     let (current, compacted) = (store.current(), store.compacted());
     let first = store.list_at(7, None, compacted, None, 10);
     let last = store.list_at(7, None, current, None, 10);
     let between = store.changes(7, None, compacted, 10);
-    told(alloc, (current, compacted, first, last, between))
+    let (a, b) = (store.get(&key(alloc, "a")?), store.get(&key(alloc, "b")?));
+    in_words(alloc, (current, compacted, first, last, (between, a, b)))
 }
 
 /// Writes, or compacts to the revision of a word. Whether it is done.
@@ -166,10 +167,10 @@ fn anew(alloc: Global, store: &mut Store, call: &str, words: &str) -> Result<Str
     let is_done = change(store, call, &key, word);
     mark(alloc)?;
     if is_done {
-        return told(alloc, true);
+        return in_words(alloc, true);
     }
     expect_text(seen(alloc, store)?, before.as_str())?;
-    told(alloc, change(store, call, &key, word))
+    in_words(alloc, change(store, call, &key, word))
 }
 
 /// Plays an example on a store that begins at this revision. The store is not dropped, and no other function holds one.
@@ -252,7 +253,7 @@ write other/a o4 => Ok(4)
 erase b => Ok(true)
 write a a6 => Ok(6)
 anew write b b7 => true
-seen => (7, 1, Ok([]), Ok([Entry { key: Key { kind: 7, namespace: "default", name: "a" }, object: Object { revision: 6, body: "a6" } }, Entry { key: Key { kind: 7, namespace: "default", name: "b" }, object: Object { revision: 7, body: "b7" } }, Entry { key: Key { kind: 7, namespace: "other", name: "a" }, object: Object { revision: 4, body: "o4" } }]), Ok([Change { revision: 2, key: Key { kind: 7, namespace: "default", name: "b" }, body: Some("b2") }, Change { revision: 3, key: Key { kind: 7, namespace: "default", name: "a" }, body: Some("a3") }, Change { revision: 4, key: Key { kind: 7, namespace: "other", name: "a" }, body: Some("o4") }, Change { revision: 5, key: Key { kind: 7, namespace: "default", name: "b" }, body: None }, Change { revision: 6, key: Key { kind: 7, namespace: "default", name: "a" }, body: Some("a6") }, Change { revision: 7, key: Key { kind: 7, namespace: "default", name: "b" }, body: Some("b7") }]))"#;
+seen => (7, 1, Ok([]), Ok([Entry { key: Key { kind: 7, namespace: "default", name: "a" }, object: Object { revision: 6, body: "a6" } }, Entry { key: Key { kind: 7, namespace: "default", name: "b" }, object: Object { revision: 7, body: "b7" } }, Entry { key: Key { kind: 7, namespace: "other", name: "a" }, object: Object { revision: 4, body: "o4" } }]), (Ok([Change { revision: 2, key: Key { kind: 7, namespace: "default", name: "b" }, body: Some("b2") }, Change { revision: 3, key: Key { kind: 7, namespace: "default", name: "a" }, body: Some("a3") }, Change { revision: 4, key: Key { kind: 7, namespace: "other", name: "a" }, body: Some("o4") }, Change { revision: 5, key: Key { kind: 7, namespace: "default", name: "b" }, body: None }, Change { revision: 6, key: Key { kind: 7, namespace: "default", name: "a" }, body: Some("a6") }, Change { revision: 7, key: Key { kind: 7, namespace: "default", name: "b" }, body: Some("b7") }]), Ok(Some(Object { revision: 6, body: "a6" })), Ok(Some(Object { revision: 7, body: "b7" }))))"#;
 
 #[test]
 fn a_write_that_is_refused_memory(rt: HostRuntime) -> Result<(), Fail> {
@@ -266,7 +267,7 @@ write other/a o4 => Ok(4)
 erase b => Ok(true)
 write a a6 => Ok(6)
 anew compact - 5 => true
-seen => (6, 5, Ok([Entry { key: Key { kind: 7, namespace: "default", name: "a" }, object: Object { revision: 3, body: "a3" } }, Entry { key: Key { kind: 7, namespace: "other", name: "a" }, object: Object { revision: 4, body: "o4" } }]), Ok([Entry { key: Key { kind: 7, namespace: "default", name: "a" }, object: Object { revision: 6, body: "a6" } }, Entry { key: Key { kind: 7, namespace: "other", name: "a" }, object: Object { revision: 4, body: "o4" } }]), Ok([Change { revision: 6, key: Key { kind: 7, namespace: "default", name: "a" }, body: Some("a6") }]))"#;
+seen => (6, 5, Ok([Entry { key: Key { kind: 7, namespace: "default", name: "a" }, object: Object { revision: 3, body: "a3" } }, Entry { key: Key { kind: 7, namespace: "other", name: "a" }, object: Object { revision: 4, body: "o4" } }]), Ok([Entry { key: Key { kind: 7, namespace: "default", name: "a" }, object: Object { revision: 6, body: "a6" } }, Entry { key: Key { kind: 7, namespace: "other", name: "a" }, object: Object { revision: 4, body: "o4" } }]), (Ok([Change { revision: 6, key: Key { kind: 7, namespace: "default", name: "a" }, body: Some("a6") }]), Ok(Some(Object { revision: 6, body: "a6" })), Ok(None)))"#;
 
 #[test]
 fn a_compaction_that_is_refused_memory(rt: HostRuntime) -> Result<(), Fail> {

@@ -20,7 +20,7 @@ use revtable::{Fault, Table};
 use std::alloc::{AllocError, Global};
 use std::mem;
 use std::test::Fail;
-use test_rows::{Answers, expect_text, first_word, mark, number, play, told};
+use test_rows::{Answers, expect_text, first_word, in_words, mark, number, play};
 
 pub const LAST_REVISION: u64 = i64::MAX as u64;
 
@@ -87,14 +87,14 @@ impl Answers for Tabled {
         let (one, other) = first_word(words);
         let table = &mut self.table;
         match call {
-            "rows" => told(alloc, (table.rows(), table.stored_rows())),
-            "marks" => told(alloc, table.marks()),
+            "rows" => in_words(alloc, (table.rows(), table.stored_rows())),
+            "marks" => in_words(alloc, table.marks()),
             "seen" => seen(alloc, table),
             "page" => page(alloc, table, one, other),
             "changes" => changes(alloc, table, one, other),
-            "stood" => told(alloc, table.latest_at(&key(alloc, one)?, number(other)?)),
+            "stood" => in_words(alloc, table.latest_at(&key(alloc, one)?, number(other)?)),
             "anew" => anew(alloc, table, one, other),
-            _ => told(alloc, change(table, call, &key(alloc, one)?, other)),
+            _ => in_words(alloc, change(table, call, &key(alloc, one)?, other)),
         }
     }
 }
@@ -107,7 +107,7 @@ fn page(alloc: Global, table: &mut Table, place: &str, words: &str) -> Result<St
     } else {
         Some(place)
     };
-    told(
+    in_words(
         alloc,
         table.at(7, namespace, number(revision)?, after, number(max)?),
     )
@@ -117,7 +117,7 @@ fn changes(alloc: Global, table: &mut Table, place: &str, words: &str) -> Result
     let (from, words) = first_word(words);
     let (to, max) = first_word(words);
     let namespace = if place == "-" { None } else { Some(place) };
-    told(
+    in_words(
         alloc,
         table.span(7, namespace, number(from)?, number(to)?, number(max)?),
     )
@@ -130,7 +130,7 @@ fn seen(alloc: Global, table: &mut Table) -> Result<String, Fail> {
     let first = table.at(7, None, marks.compacted, None, 10);
     let last = table.at(7, None, marks.current, None, 10);
     let between = table.span(7, None, marks.compacted, marks.current, 10);
-    told(alloc, (marks, table.rows(), first, last, between))
+    in_words(alloc, (marks, table.rows(), first, last, between))
 }
 
 /// A change between marks; where the table failed, all is seen as before, and the change is made again.
@@ -142,10 +142,10 @@ fn anew(alloc: Global, table: &mut Table, call: &str, words: &str) -> Result<Str
     let is_failed = change(table, call, &key, word).is_err();
     mark(alloc)?;
     if !is_failed {
-        return told(alloc, true);
+        return in_words(alloc, true);
     }
     expect_text(seen(alloc, table)?, before.as_str())?;
-    told(alloc, change(table, call, &key, word).is_ok())
+    in_words(alloc, change(table, call, &key, word).is_ok())
 }
 
 /// Plays an example on a table that begins at this revision. The table is not dropped, and no other function holds one: one

@@ -10,7 +10,7 @@ use Rattle.std.specs.FinMap.{nat_cmp-IsAntisymmetric, slice_cmp-IsAntisymmetric}
 use Rattle.std.specs.FinMap.Entries.{by_order, find, below_all, is_sorted, put}
 use Rattle.indexer.specs.Objects.{Place, place_cmp, Stored}
 use Rattle.reflector.specs.Client.{Objects, place_in, Notice, added, updated, deleted}
-use Rattle.reflector.specs.Replays.{with_notice, replayed, IsOld, AreOld}
+use Rattle.reflector.specs.ReplayLaws.{with_notice, replayed, OldSideMatches, OldSidesMatch}
 use Rattle.summary.specs.Counts.{how_many, one_if, counted, counted_all}
 
 abbrev Entries : Type 0
@@ -133,7 +133,7 @@ module _ (test : Stored → Bool) where
       let nothing : fin.from_sorted {X = Stored} {R = place_cmp} [] ≡ fin.empty = fin.empty_of_len (fin.from_sorted {X = Stored} {R = place_cmp} []) (fin.len-entries (fin.from_sorted {X = Stored} {R = place_cmp} []) ∙ ap length none) in
       ap (how_many test) (sym nothing) ∙ ap among none
 
-  pub notice_counted : (o : Objects) (n : Notice) → IsOld o n → how_many test (with_notice o n) ≡ counted test (how_many test o) n
+  pub notice_counted : (o : Objects) (n : Notice) → OldSideMatches o n → how_many test (with_notice o n) ≡ counted test (how_many test o) n
   notice_counted o (added new) is =
       let a : how_many test (fin.insert o (place_in new) new) + 0 ≡ how_many test o + one_if (test new) = insert_counted o (place_in new) new None is in
       omega (arith, a)
@@ -142,6 +142,6 @@ module _ (test : Stored → Bool) where
       omega (arith, a)
   notice_counted o (deleted old) is = remove_counted o (place_in old) old is
 
-  pub notices_counted : (o : Objects) (ns : List Notice) → AreOld o ns → counted_all test (how_many test o) ns ≡ how_many test (replayed o ns)
+  pub notices_counted : (o : Objects) (ns : List Notice) → OldSidesMatch o ns → counted_all test (how_many test o) ns ≡ how_many test (replayed o ns)
   notices_counted o [] old = refl
   notices_counted o (n ∷ ns) old = ap (λ k. counted_all test k ns) (sym (notice_counted o n old.0)) ∙ notices_counted (with_notice o n) ns old.1

@@ -5,7 +5,7 @@ use Rattle.std.specs.FinMap as fin
 use Rattle.std.specs.Ordering.{eq_by_cmp}
 use Rattle.indexer.specs.Objects.{Stored}
 use Rattle.reflector.specs.Client.{Objects, Notice, added, updated, deleted}
-use Rattle.reflector.specs.Replays.{with_notice, IsOld}
+use Rattle.reflector.specs.ReplayLaws.{with_notice, OldSideMatches}
 use Rattle.summary.specs.Counts.{value_of, is_value, has, is_labelled, how_many, count, total, Counts, counts_of, some_if_any, Summed, summed_of, one_if, counted}
 use Rattle.summary.specs.Steps.{more, one_more, with_one_more, with_left, less_one, with_one_less, with_value, without_value, noted}
 use Rattle.summary.proofs.ByValue.{text_cmp, text_antisymmetric, ties, same_key, counts_get}
@@ -126,7 +126,7 @@ at_most p (x ∷ xs) = go (p x) (at_most p xs)
     go true h = omega (arith, h)
     go false h = omega (arith, h)
 
-module _ (label : List ℕ) (o : Objects) (n : Notice) (old : IsOld o n) (lt : fin.len o < 2 ^ 63) where
+module _ (label : List ℕ) (o : Objects) (n : Notice) (old : OldSideMatches o n) (lt : fin.len o < 2 ^ 63) where
   fits : (test : Stored → Bool) → how_many test o < 2 ^ 64 - 1
   fits test =
       let all : fin.len o ≡ length (fin.entries o) = fin.len-entries o in
@@ -143,7 +143,7 @@ module _ (label : List ℕ) (o : Objects) (n : Notice) (old : IsOld o n) (lt : f
   both : (m : Counts) (t : ℕ) → Says m (λ q. counted (has label q) (count label q o) n) → t ≡ counted (is_labelled label) (total label o) n → made label m t ≡ summed_of label (with_notice o n)
   both m t says is = ap₂ (λ m t. made label m t) (same_counts m says) (same_total t is)
 
-pub summed_noted : (label : List ℕ) (o : Objects) (n : Notice) → IsOld o n → fin.len o < 2 ^ 63 → noted (summed_of label o) n ≡ summed_of label (with_notice o n)
+pub summed_noted : (label : List ℕ) (o : Objects) (n : Notice) → OldSideMatches o n → fin.len o < 2 ^ 63 → noted (summed_of label o) n ≡ summed_of label (with_notice o n)
 summed_noted label o (added new) old lt =
     let m = counts_of label o in
     let v = value_of label new in

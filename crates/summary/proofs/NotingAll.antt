@@ -6,7 +6,7 @@ use Rattle.std.specs.declared.result.Result.{Result}
 use Rattle.std.specs.declared.result.Result.TheVariants.{Ok, Err}
 use Rattle.std.proofs.lemmas.List.{length-append, length-map, map-append, take_more}
 use Rattle.reflector.specs.Client.{Objects, place_in, Notice, added, updated, deleted}
-use Rattle.reflector.specs.Replays.{with_notice, replayed, AreOld}
+use Rattle.reflector.specs.ReplayLaws.{with_notice, replayed, OldSidesMatch}
 use Rattle.summary.specs.Counts.{Summed, summed_of}
 use Rattle.summary.specs.Steps.{noted, noted_all}
 use Rattle.summary.proofs.HowMany.{place_total}
@@ -40,25 +40,25 @@ one_more_object o (deleted old) = at_most_as_many (fin.contains_key o (place_in 
 
 -- ---- all of them, or the first ones
 
-pub summed_noted_all : (label : List ℕ) (ns : List Notice) (o : Objects) → AreOld o ns → fin.len o + length ns < 2 ^ 63 → noted_all (summed_of label o) ns ≡ summed_of label (replayed o ns)
+pub summed_noted_all : (label : List ℕ) (ns : List Notice) (o : Objects) → OldSidesMatch o ns → fin.len o + length ns < 2 ^ 63 → noted_all (summed_of label o) ns ≡ summed_of label (replayed o ns)
 summed_noted_all label [] o old lt = refl
 summed_noted_all label (n ∷ ns) o old lt =
     let one : fin.len (with_notice o n) ≤ fin.len o + 1 = one_more_object o n in
     ap (λ s. noted_all s ns) (summed_noted label o n old.0 (omega (arith, lt))) ∙ summed_noted_all label ns (with_notice o n) old.1 (omega (arith, lt, one))
 
-old_some : (o : Objects) (xs ys : List Notice) → AreOld o (xs ++ ys) → AreOld o xs
+old_some : (o : Objects) (xs ys : List Notice) → OldSidesMatch o (xs ++ ys) → OldSidesMatch o xs
 old_some o [] ys old = tt
 old_some o (x ∷ xs) ys old = (old.0, old_some (with_notice o x) xs ys old.1)
 
-pub some_summed : {A : Type 0} (f : A → Notice) (label : List ℕ) (o : Objects) (all : List A) (k : ℕ) (s t : Summed) → s ≡ summed_of label o → AreOld o (map f all) → fin.len o + length all < 2 ^ 63
+pub some_summed : {A : Type 0} (f : A → Notice) (label : List ℕ) (o : Objects) (all : List A) (k : ℕ) (s t : Summed) → s ≡ summed_of label o → OldSidesMatch o (map f all) → fin.len o + length all < 2 ^ 63
     → t ≡ noted_all s (map f (take k all)) → t ≡ summed_of label (replayed o (map f (take k all)))
-some_summed f label o all k s t is old lt told =
+some_summed f label o all k s t is old lt emitted =
     let first : List Notice = map f (take k all) in
     let rest : List Notice = map f (drop k all) in
     let parts : map f all ≡ first ++ rest = ap (map f) (sym (take-append-drop k all)) ∙ map-append f (take k all) (drop k all) in
     let long : length all ≡ length first + length rest = sym (length-map all f) ∙ ap length parts ∙ length-append first rest in
     let few : fin.len o + length first < 2 ^ 63 = omega (arith, lt, long) in
-    told ∙ ap (λ u. noted_all u first) is ∙ summed_noted_all label first o (old_some o first rest (subst (AreOld o) parts old)) few
+    emitted ∙ ap (λ u. noted_all u first) is ∙ summed_noted_all label first o (old_some o first rest (subst (OldSidesMatch o) parts old)) few
 
 pub err_weaker : {A B : Type 0} (r : Result A B) (P Q : B → Type 0) → ((e : B) → P e → Q e) → IfErr r P → IfErr r Q
 err_weaker (Ok x) P Q f h = tt

@@ -23,8 +23,8 @@ impl Summary {
     ghost use Rattle.std.specs.FinMap as fin;
     ghost use Rattle.indexer.specs.Objects.{stored_of};
     ghost use Rattle.reflector.specs.Client.{Objects};
-    ghost use Rattle.reflector.specs.Replays.{AreOld, IsOld, replayed, with_notice};
-    ghost use Rattle.reflector.specs.Seen.{notice_seen};
+    ghost use Rattle.reflector.specs.ReplayLaws.{OldSidesMatch, OldSideMatches, replayed, with_notice};
+    ghost use Rattle.reflector.specs.Views.{notice_seen};
     ghost use Rattle.summary.specs.Counts.{summed_of};
     ghost use Rattle.summary.specs.Steps.{noted, noted_all, with_object, without_object};
     ghost use Rattle.summary.specs.Summary.{counts_in, summed};
@@ -65,7 +65,7 @@ impl Summary {
 
     /// What a notice does to the counts alone, whatever they were before. `note` says what that is where they are those
     /// of some objects.
-    fn tell(&mut self, notice: &Notice) -> Result<(), AllocError>
+    fn notify(&mut self, notice: &Notice) -> Result<(), AllocError>
         ensures ok { OnOk result (summed self.new ≡ noted (summed self.old) (notice_seen notice.now)) }
         ensures err { OnErr result (summed self.new ≡ summed self.old) }
     {
@@ -85,13 +85,13 @@ impl Summary {
 
     /// What notices do to the counts alone, one after the other. `note_all` says what that is where they are those of
     /// some objects.
-    fn tell_all(&mut self, notices: &[Notice]) -> Result<(), CountFault>
+    fn notify_all(&mut self, notices: &[Notice]) -> Result<(), CountFault>
         ensures ok { OnOk result (summed self.new ≡ noted_all (summed self.old) (map notice_seen notices.now)) }
         ensures err { IfErr result (λ f. summed self.new ≡ noted_all (summed self.old) (map notice_seen (take f.counted notices.now))) }
         ensures fewer { IfErr result (λ f. f.counted < length notices.now) }
     {
         for counted in 0..notices.len() {
-            match self.tell(&notices[counted]) {
+            match self.notify(&notices[counted]) {
                 Ok(()) => {}
                 Err(_) => return Err(CountFault { counted }),
             }
@@ -100,26 +100,26 @@ impl Summary {
     }
 
     /// Counts what a notice tells: the summary of the objects before it becomes that of the objects after it.
-    /// Out of memory, it changes nothing. It stands apart from `tell`, since only its clauses speak of objects.
+    /// Out of memory, it changes nothing. It stands apart from `notify`, since only its clauses speak of objects.
     pub fn note(&mut self, notice: &Notice) -> Result<(), AllocError>
-        ensures noted { (label : List ℕ) (o : Objects) → summed self.old ≡ summed_of label o → fin.len o < 2 ^ 63 → IsOld o (notice_seen notice.now)
+        ensures noted { (label : List ℕ) (o : Objects) → summed self.old ≡ summed_of label o → fin.len o < 2 ^ 63 → OldSideMatches o (notice_seen notice.now)
             → OnOk result (summed self.new ≡ summed_of label (with_notice o (notice_seen notice.now))) }
         ensures refused { OnErr result (summed self.new ≡ summed self.old) }
     {
-        self.tell(notice)
+        self.notify(notice)
     }
 
     /// Counts what notices tell, one after the other: the summary of the objects before them becomes that of the
     /// objects after them. Out of memory, it answers how many it has counted, the first ones. It stands apart from
-    /// `tell_all` as `note` does from `tell`.
+    /// `notify_all` as `note` does from `notify`.
     pub fn note_all(&mut self, notices: &[Notice]) -> Result<(), CountFault>
-        ensures noted { (label : List ℕ) (o : Objects) → summed self.old ≡ summed_of label o → fin.len o + length notices.now < 2 ^ 63 → AreOld o (map notice_seen notices.now)
+        ensures noted { (label : List ℕ) (o : Objects) → summed self.old ≡ summed_of label o → fin.len o + length notices.now < 2 ^ 63 → OldSidesMatch o (map notice_seen notices.now)
             → OnOk result (summed self.new ≡ summed_of label (replayed o (map notice_seen notices.now))) }
-        ensures some { (label : List ℕ) (o : Objects) → summed self.old ≡ summed_of label o → fin.len o + length notices.now < 2 ^ 63 → AreOld o (map notice_seen notices.now)
+        ensures some { (label : List ℕ) (o : Objects) → summed self.old ≡ summed_of label o → fin.len o + length notices.now < 2 ^ 63 → OldSidesMatch o (map notice_seen notices.now)
             → IfErr result (λ f. summed self.new ≡ summed_of label (replayed o (map notice_seen (take f.counted notices.now)))) }
         ensures fewer { IfErr result (λ f. f.counted < length notices.now) }
     {
-        self.tell_all(notices)
+        self.notify_all(notices)
     }
 
     /// How many objects have each value of the label; values that none has are not there.

@@ -18,4 +18,4 @@ pub use rows::{Answers, play, play_all};
 pub use served::Serves;
 pub use served_rows::play_served;
 pub use texts::{bytes_of, line_of, plain_bytes};
-pub use words::{expect_text, first_word, number, told};
+pub use words::{expect_text, first_word, in_words, number};

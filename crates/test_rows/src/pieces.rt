@@ -1,8 +1,8 @@
-//! Requests that come in pieces, or not whole: malformed and large ones cut at every place, and every front of what comes at
+//! Requests that come in pieces, or not whole: malformed and large ones cut at every place, and every prefix of what comes at
 //! each row of examples.
 
-use crate::replies::reply_told;
-use crate::served::{Serves, asks, comes, comes_next, goes, heard, request_of};
+use crate::replies::reply_in_words;
+use crate::served::{Serves, asks, comes, comes_next, goes, received, request_of};
 use crate::texts::bytes_of;
 use crate::words::first_word;
 use std::alloc::Global;
@@ -13,18 +13,18 @@ fn cut_at<S: Serves>(
     alloc: Global,
     served: &mut S,
     id: u64,
-    front: &[u8],
+    prefix: &[u8],
     rest: &[u8],
 ) -> Result<String, Fail> {
-    asks(alloc, served, id, front)?;
+    asks(alloc, served, id, prefix)?;
     comes(alloc, served, id, rest)?;
     let is_undecided = served.wants(id);
-    let reply = heard(alloc, served, id)?;
+    let reply = received(alloc, served, id)?;
     goes(alloc, served, id)?;
     if is_undecided && reply.as_str() == "-" {
         return Ok(String::from_str(alloc, "undecided")?);
     }
-    reply_told(alloc, reply.as_str(), false)
+    reply_in_words(alloc, reply.as_str(), false)
 }
 
 /// The same wherever the bytes are cut, on connections from an id on; the test fails where it isn't.
@@ -46,37 +46,37 @@ pub fn cut_anywhere<S: Serves>(
     Ok(answer)
 }
 
-/// A front of a request comes, and its peer goes: whether it was refused. The test fails where it was answered, unless it was
+/// A prefix of a request comes, and its peer goes: whether it was refused. The test fails where it was answered, unless it was
 /// refused and may be.
-fn front_comes<S: Serves>(
+fn prefix_comes<S: Serves>(
     alloc: Global,
     served: &mut S,
-    front: &[u8],
+    prefix: &[u8],
     may_be_refused: bool,
 ) -> Result<bool, Fail> {
     let id = served.next_id().ok_or("no id is left")?;
-    asks(alloc, served, id, front)?;
+    asks(alloc, served, id, prefix)?;
     let waits = served.wants(id);
-    let reply = heard(alloc, served, id)?;
+    let reply = received(alloc, served, id)?;
     let is_unanswered = waits && reply.as_str() == "-";
     if !is_unanswered && !(may_be_refused && reply.starts_with("HTTP/1.1 4")) {
         return Err(Fail::new(format!(in alloc;
             "a front was answered: {} {reply}",
-            str::from_utf8(front)?
+            str::from_utf8(prefix)?
         )?));
     }
     goes(alloc, served, id)?;
     Ok(!is_unanswered)
 }
 
-/// Every front comes. A request that its head alone decides is refused with the head's last byte, and with more.
-fn fronts_come<S: Serves>(alloc: Global, served: &mut S, request: &[u8]) -> Result<(), Fail> {
+/// Every prefix comes. A request that its head alone decides is refused with the head's last byte, and with more.
+fn prefixes_come<S: Serves>(alloc: Global, served: &mut S, request: &[u8]) -> Result<(), Fail> {
     let head = str::from_utf8(request)?.find("\r\n\r\n");
     let head = head.unwrap_or(request.len()).saturating_add(4);
     let mut is_refused = false;
     for length in 0..request.len() {
         let may_be_refused = is_refused || length == head;
-        is_refused = front_comes(alloc, served, &request[..length], may_be_refused)?;
+        is_refused = prefix_comes(alloc, served, &request[..length], may_be_refused)?;
     }
     Ok(())
 }
@@ -95,10 +95,10 @@ fn bytes_in<S: Serves>(alloc: Global, row: &str) -> Result<Vec<u8>, Fail> {
     }
 }
 
-/// Every front of what comes at each row of these examples comes, each on a connection of its own.
-pub fn fronts_of<S: Serves>(alloc: Global, served: &mut S, examples: &str) -> Result<(), Fail> {
+/// Every prefix of what comes at each row of these examples comes, each on a connection of its own.
+pub fn prefixes_of<S: Serves>(alloc: Global, served: &mut S, examples: &str) -> Result<(), Fail> {
     for row in examples.lines() {
-        fronts_come(alloc, served, &bytes_in::<S>(alloc, row)?)?;
+        prefixes_come(alloc, served, &bytes_in::<S>(alloc, row)?)?;
     }
     Ok(())
 }
@@ -107,7 +107,7 @@ pub fn fronts_of<S: Serves>(alloc: Global, served: &mut S, examples: &str) -> Re
 fn expect_absent<S: Serves>(alloc: Global, served: &mut S, get: &[u8]) -> Result<(), Fail> {
     let id = served.next_id().ok_or("no id is left")?;
     asks(alloc, served, id, get)?;
-    let reply = heard(alloc, served, id)?;
+    let reply = received(alloc, served, id)?;
     if reply.starts_with("HTTP/1.1 404 ") {
         return Ok(());
     }
@@ -138,8 +138,8 @@ pub fn comes_apart<S: Serves>(
     let (_, target) = first_word(line);
     let (path, _) = target.split_once('?').ok_or("no query")?;
     let get = request_of::<S>(alloc, format!(in alloc; "GET {path}")?.as_str())?;
-    let (last, front) = bytes.split_last().ok_or("no bytes")?;
-    for byte in front {
+    let (last, prefix) = bytes.split_last().ok_or("no bytes")?;
+    for byte in prefix {
         comes_next(alloc, served, id, *byte)?;
         expect_absent(alloc, served, &get)?;
     }

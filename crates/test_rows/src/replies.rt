@@ -71,7 +71,7 @@ fn expect_refusal(alloc: Global, body: &str, code: &str, message: &str) -> Resul
 }
 
 /// The status of a reply in one line, and its body, or else its message or the version of its object.
-pub fn reply_told(alloc: Global, reply: &str, is_whole: bool) -> Result<String, Fail> {
+pub fn reply_in_words(alloc: Global, reply: &str, is_whole: bool) -> Result<String, Fail> {
     let (head, body) = reply.split_once("|$|$").ok_or("no reply")?;
     let status = between(head, "HTTP/1.1 ", " ").ok_or("no status")?;
     expect_head(alloc, head, status, body)?;
@@ -86,7 +86,7 @@ pub fn reply_told(alloc: Global, reply: &str, is_whole: bool) -> Result<String, 
 }
 
 /// The status of a reply, or `-`.
-pub fn status_told(alloc: Global, reply: &[u8]) -> Result<String, Fail> {
+pub fn status_in_words(alloc: Global, reply: &[u8]) -> Result<String, Fail> {
     let reply = str::from_utf8(reply)?;
     Ok(String::from_str(alloc, between(reply, "HTTP/1.1 ", " ").unwrap_or("-"))?)
 }

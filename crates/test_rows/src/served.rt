@@ -2,7 +2,7 @@
 //! of a server's contracts, so that a crate of tests proves no more of one than these calls.
 
 use crate::texts::line_of;
-use crate::words::{first_word, told};
+use crate::words::{first_word, in_words};
 use std::alloc::Global;
 use std::fmt::Debug;
 use std::test::Fail;
@@ -50,7 +50,7 @@ pub fn happens<S: Serves>(
     let event = S::event(alloc, word, id, rest)?;
     match served.on(&event) {
         Ok(()) => Ok(None),
-        Err(fault) => Ok(Some(told(alloc, fault)?)),
+        Err(fault) => Ok(Some(in_words(alloc, fault)?)),
     }
 }
 
@@ -92,7 +92,7 @@ pub fn comes_next<S: Serves>(alloc: Global, served: &mut S, id: u64, byte: u8) -
 }
 
 /// The bytes that are out on a connection, in one line; they are taken.
-pub fn heard<S: Serves>(alloc: Global, served: &mut S, id: u64) -> Result<String, Fail> {
+pub fn received<S: Serves>(alloc: Global, served: &mut S, id: u64) -> Result<String, Fail> {
     let text = line_of(alloc, served.out(id))?;
     served.take(id, usize::MAX);
     Ok(text)

@@ -12,7 +12,7 @@
 //! | `serve A B METHOD TARGET BODY` | on each from A to B, one after another: it opens, the request comes, its reply is taken |
 //! | `pumped A B N` | each from A to B may write so many lines: what each wrote, if that is the same |
 //! | `cut K TEXT` | bytes come in two pieces, wherever they are cut, on connections from K on (`pieces`) |
-//! | `fronts 0 EXAMPLES` | every front of what comes at each row of these examples comes (`pieces`) |
+//! | `fronts 0 EXAMPLES` | every prefix of what comes at each row of these examples comes (`pieces`) |
 //! | `out K` | no event; the bytes that are out on K are taken |
 //! | `take K N` | the next N of them are taken: how many are left |
 //! | `stand K` | no event: how many are out, whether K waits, whether it has ended |
@@ -21,16 +21,16 @@
 //! | `else STEP`, `done STEP` | the step, where the last marked one was refused memory, or where it wasn't |
 //!
 //! The answer of an event is why it is refused, or the bytes that then are out on connection 1, which are taken; of an
-//! `ask` on another connection it is the status of its reply, which stays out. Of `told` it is the status of the reply on K, and
+//! `ask` on another connection it is the status of its reply, which stays out. Of `in_words` it is the status of the reply on K, and
 //! its message or else the version of its object; of `got` the status and the body. The head of a reply, and the body of a
 //! refusal that has no details, must be those of its status (`replies`). Requests and replies are shown in one line (`texts`).
 
 use crate::marking::mark;
-use crate::pieces::{comes_apart, comes_by_bytes, cut_anywhere, fronts_of};
-use crate::replies::{reply_told, status_told};
-use crate::served::{Serves, asks, happens, heard, request_of};
+use crate::pieces::{comes_apart, comes_by_bytes, cut_anywhere, prefixes_of};
+use crate::replies::{reply_in_words, status_in_words};
+use crate::served::{Serves, asks, happens, received, request_of};
 use crate::texts::bytes_of;
-use crate::words::{first_word, number, told};
+use crate::words::{first_word, in_words, number};
 use std::alloc::{AllocError, Global};
 use std::test::Fail;
 
@@ -54,7 +54,7 @@ fn steps<S: Serves>(
     let event = event_of::<S>(alloc, word, id, rest)?;
     match served.on(&event) {
         Ok(()) => Ok(None),
-        Err(fault) => Ok(Some(told(alloc, fault)?)),
+        Err(fault) => Ok(Some(in_words(alloc, fault)?)),
     }
 }
 
@@ -102,7 +102,7 @@ fn acts<S: Serves>(
         }
         "bytes" => comes_by_bytes(alloc, served, id, rest)?,
         "apart" => comes_apart(alloc, served, id, rest)?,
-        "fronts" => fronts_of(alloc, served, S::examples(rest))?,
+        "fronts" => prefixes_of(alloc, served, S::examples(rest))?,
         "serve" => serves(alloc, served, id, rest)?,
         "open" if !rest.is_empty() => return opens_all(alloc, served, id, number(rest)?),
         _ => {}
@@ -140,13 +140,17 @@ fn seen<S: Serves>(
     rest: &str,
 ) -> Result<String, Fail> {
     match word {
-        "out" => heard(alloc, served, id),
+        "out" => received(alloc, served, id),
         "take" => taken(alloc, served, id, rest),
         "stand" => standing(alloc, served, id),
         "kept" => kept(alloc, served),
-        "told" | "got" => reply_told(alloc, heard(alloc, served, id)?.as_str(), word == "got"),
-        "ask" if id != 1 => status_told(alloc, served.out(id)),
-        _ => heard(alloc, served, 1),
+        "told" | "got" => reply_in_words(
+            alloc,
+            received(alloc, served, id)?.as_str(),
+            word == "got",
+        ),
+        "ask" if id != 1 => status_in_words(alloc, served.out(id)),
+        _ => received(alloc, served, 1),
     }
 }
 
@@ -161,7 +165,7 @@ fn pumped<S: Serves>(
     let mut answer = String::new(alloc);
     for id in first..=number(last)? {
         happens(alloc, served, "pump", id, lines.as_bytes())?;
-        let next = heard(alloc, served, id)?;
+        let next = received(alloc, served, id)?;
         if id != first && next.as_str() != answer.as_str() {
             return Err(Fail::new(format!(in alloc; "{id} wrote {next}")?));
         }
@@ -213,7 +217,7 @@ fn marked_answer_to<S: Serves>(
     let Err(fault) = marked(alloc, served, &event)? else {
         return Ok(Some(seen(alloc, served, word, id, rest)?));
     };
-    let why = told(alloc, fault)?;
+    let why = in_words(alloc, fault)?;
     match why.as_str() {
         "Memory" | "Store" => Ok(None),
         _ => Ok(Some(why)),

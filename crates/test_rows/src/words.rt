@@ -14,7 +14,7 @@ pub fn number(text: &str) -> Result<u64, Fail> {
 }
 
 /// An answer as it is shown.
-pub fn told<T: Debug + Drop>(alloc: Global, answer: T) -> Result<String, Fail> {
+pub fn in_words<T: Debug + Drop>(alloc: Global, answer: T) -> Result<String, Fail> {
     Ok(format!(in alloc; "{answer:?}")?)
 }
 

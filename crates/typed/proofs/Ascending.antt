@@ -8,16 +8,16 @@ use Rattle.std.proofs.Common.{is_eq, nat_cmp, ◌≡◌, ℕ, Bool, true, false,
 use Rattle.serde_json.specs.Data.{Data, Members, no_members, member}
 use Rattle.fieldpath.specs.Elements.{name_text}
 use Rattle.fieldpath.specs.Scalars.{ascend, ascend_from}
-use Rattle.fieldpath.specs.Spelled.{member_names}
+use Rattle.fieldpath.specs.Encodable.{member_names}
 use Rattle.fieldpath.proofs.Names.{ascend_rest, first_below, further, rest_above}
 use Rattle.pathmap.specs.Contents.{Content, nothing}
 use Rattle.pathmap.specs.Insides.{inside}
 use Rattle.pathmap.proofs.Heads.{inside-nothing}
 use Rattle.typed.specs.declared.fault.ReadFault.{ReadFault}
-use Rattle.typed.specs.Faults.{Read, Tells, fault_in}
+use Rattle.typed.specs.Faults.{Read, ReportsFault, fault_in}
 use Rattle.typed.specs.Reading.{is_null, at_field, joined, members_at, one_member}
 use Rattle.typed.specs.Steps.{IsFree}
-use Rattle.typed.proofs.Joins.{joined-nothing, joined-none, joined-joined, joined_keeps, tells-after, tells-before}
+use Rattle.typed.proofs.Joins.{joined-nothing, joined-none, joined-joined, joined_keeps, reports-after, reports-before}
 
 -- nothing stands below the element of a name that is left
 abbrev pub AreFree : Content → List (List ℕ) → Type 0
@@ -91,7 +91,7 @@ module _ (inner : List ℕ → Data → Read Content) (whole : Read Content) (c 
       still_free k c e (member_names more) above (joined_keeps k c e (inner k d) adds) free_it.1,
     )
 
-    pub one_failed : (f : ReadFault) → Tells f (fault_in (at_field k (inner k d))) → Tells f (fault_in whole)
+    pub one_failed : (f : ReadFault) → ReportsFault f (fault_in (at_field k (inner k d))) → ReportsFault f (fault_in whole)
     one_failed f h =
-        subst (λ r. Tells f (fault_in r)) (next false has)
-        (tells-after f c (joined (at_field k (inner k d)) (members_at inner more)) (tells-before f (at_field k (inner k d)) (members_at inner more) h))
+        subst (λ r. ReportsFault f (fault_in r)) (next false has)
+        (reports-after f c (joined (at_field k (inner k d)) (members_at inner more)) (reports-before f (at_field k (inner k d)) (members_at inner more) h))

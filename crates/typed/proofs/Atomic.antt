@@ -6,12 +6,12 @@ use Rattle.serde_json.specs.View.{items_view, members_view}
 use Rattle.serde_json.specs.declared.value.Value.{Value}
 use Rattle.serde_json.specs.Written.{compact_text}
 use Rattle.pathmap.specs.Contents.{here}
-use Rattle.pathmap.specs.Contents as standing
+use Rattle.pathmap.specs.Contents as leaf_value
 use Rattle.typed.specs.Reading.{leaf}
 use Rattle.typed.specs.Steps.{is_empty}
 use Rattle.typed.proofs.Plains.{Entry}
 
-pub leaf-full : (d : Data) → is_empty d ≡ false → leaf d ≡ here (standing.plain (compact_text d))
+pub leaf-full : (d : Data) → is_empty d ≡ false → leaf d ≡ here (leaf_value.plain (compact_text d))
 leaf-full null h = refl
 leaf-full (boolean b) h = refl
 leaf-full (number n) h = refl

@@ -18,7 +18,7 @@ use Rattle.typed.specs.Between.{fields_between, then_fields, then_member}
 use Rattle.typed.specs.Printing.{print as printed, print_fields, with_member}
 use Rattle.typed.proofs.KeyFields.{AreRising}
 use Rattle.typed.proofs.Prints.{print-nothing}
-use Rattle.typed.proofs.Rows.{AllAbove, IsFront, fields_front, fields_row, put_front, then_front}
+use Rattle.typed.proofs.Rows.{AllAbove, IsPrefix, fields_prefix, fields_row, put_prefix, then_prefix}
 
 -- ---- which lie between
 
@@ -50,15 +50,15 @@ module _ (k f : List ℕ) (d : Data) where
   put_behind None ms is = refl
   put_behind (Some e) ms is = ap (λ o. match_ordering o (member k d (member f e ms)) (member f d ms) (member f e (put k d ms))) is
 
-  put_over : (o : Option Data) (ms : Members) → slice_cmp nat_cmp k f ≡ Equal → IsFront k ms → put k d (then_member f o ms) ≡ member k d ms
-  put_over None ms is front = put_front k d ms front
-  put_over (Some e) ms is front =
+  put_over : (o : Option Data) (ms : Members) → slice_cmp nat_cmp k f ≡ Equal → IsPrefix k ms → put k d (then_member f o ms) ≡ member k d ms
+  put_over None ms is prefix = put_prefix k d ms prefix
+  put_over (Some e) ms is prefix =
       ap (λ o. match_ordering o (member k d (member f e ms)) (member f d ms) (member f e (put k d ms))) is ∙ ap (λ l. member l d ms) (sym (ties k f (ap is_eq is)))
 
-  put_before : (o : Option Data) (ms : Members) → slice_cmp nat_cmp k f ≡ Less → IsFront k ms → put k d (then_member f o ms) ≡ member k d (then_member f o ms)
-  put_before o ms is front = put_front k d (then_member f o ms) (then_front k f o ms is front)
+  put_before : (o : Option Data) (ms : Members) → slice_cmp nat_cmp k f ≡ Less → IsPrefix k ms → put k d (then_member f o ms) ≡ member k d (then_member f o ms)
+  put_before o ms is prefix = put_prefix k d (then_member f o ms) (then_prefix k f o ms is prefix)
 
-module _ (k : List ℕ) (d : Data) (c : Content) (rest : Members) (front : IsFront k rest) where
+module _ (k : List ℕ) (d : Data) (c : Content) (rest : Members) (prefix : IsPrefix k rest) where
   -- the member among the fields
   abbrev among : Fields → Members
   among fs = then_fields (below k fs) c (member k d (then_fields (above k fs) c rest))
@@ -71,17 +71,17 @@ module _ (k : List ℕ) (d : Data) (c : Content) (rest : Members) (front : IsFro
       ≡ then_fields (cond (is_lt (ordering_reverse o)) (field f s (below k more)) (below k more)) c (member k d (then_fields (cond (is_lt o && true) (field f s (above k more)) (above k more)) c rest))
   by_order f s more Less is all later =
       let behind = all_above k f (names_of more) is all in
-      put_before k f d (printed s (inside (name_text f) c)) (then_fields more c rest) is (fields_front more c k rest behind front)
+      put_before k f d (printed s (inside (name_text f) c)) (then_fields more c rest) is (fields_prefix more c k rest behind prefix)
       ∙ sym (ap₂ (λ b a. then_fields b c (member k d (then_fields (field f s a) c rest))) (below_none k more behind) (above_all k more behind))
   by_order f s more Equal is all later =
       let behind = subst (λ g. AllAbove g (names_of more)) (sym (ties k f (ap is_eq is))) all in
-      put_over k f d (printed s (inside (name_text f) c)) (then_fields more c rest) is (fields_front more c k rest behind front) ∙ sym (all_behind more behind)
+      put_over k f d (printed s (inside (name_text f) c)) (then_fields more c rest) is (fields_prefix more c k rest behind prefix) ∙ sym (all_behind more behind)
   by_order f s more Greater is all later =
       let o = printed s (inside (name_text f) c) in put_behind k f d o (then_fields more c rest) is ∙ ap (then_member f o) later
 
   -- the fields below the name, the member, the fields above the name
   pub put_between : (fs : Fields) → AreRising (names_of fs) → put k d (then_fields fs c rest) ≡ then_fields (fields_between None (Some k) fs) c (member k d (then_fields (fields_between (Some k) None fs) c rest))
-  put_between no_fields rise = put_front k d rest front
+  put_between no_fields rise = put_prefix k d rest prefix
   put_between (field f s more) rise =
       by_order f s more (slice_cmp nat_cmp k f) refl rise.0 (put_between more rise.1)
       ∙ sym (ap (λ o. then_fields (cond (is_lt o) (field f s (below k more)) (below k more)) c (member k d (then_fields (above k (field f s more)) c rest))) (turned k f (slice_cmp nat_cmp k f) refl))

@@ -8,7 +8,7 @@ use Rattle.schema.specs.declared.place.Place.{Place}
 use Rattle.schema.specs.declared.place.Place.TheVariants.{Leaf, SetItem, MapItem}
 use Rattle.typed.specs.Carried.{CarriedIsOne, IsNewLeaf}
 
--- ---- paths, some of whose fronts have a property
+-- ---- paths, some of whose prefixes have a property
 
 abbrev is_end : PathTexts → Bool
 is_end [] = true
@@ -22,8 +22,8 @@ abbrev rest_of : PathTexts → PathTexts
 rest_of [] = []
 rest_of (e ∷ p) = p
 
-abbrev HasFront : (PathTexts → Type 0) → PathTexts → Type 0
-HasFront P p = (above : PathTexts) × (rest : PathTexts) × P above × (p ≡ above ++ rest)
+abbrev HasPrefix : (PathTexts → Type 0) → PathTexts → Type 0
+HasPrefix P p = (above : PathTexts) × (rest : PathTexts) × P above × (p ≡ above ++ rest)
 
 abbrev HasNone : (PathTexts → Type 0) → PathTexts → Type 0
 HasNone P p = (above rest : PathTexts) → P above → p ≡ above ++ rest → ⊥
@@ -39,15 +39,15 @@ none_more P e q out later (g ∷ above) rest has is = later above rest (has_at g
     has_at : (f : List ℕ) → P (f ∷ above) → e ≡ f → P (e ∷ above)
     has_at f has is = subst (λ x. P (x ∷ above)) (sym is) has
 
-fronts : (P : PathTexts → Type 0) → ((p : PathTexts) → P p ⊎ (P p → ⊥)) → (p : PathTexts) → HasFront P p ⊎ HasNone P p
-fronts P test [] = by_test (test [])
+prefixes : (P : PathTexts → Type 0) → ((p : PathTexts) → P p ⊎ (P p → ⊥)) → (p : PathTexts) → HasPrefix P p ⊎ HasNone P p
+prefixes P test [] = by_test (test [])
   where
-    by_test : P [] ⊎ (P [] → ⊥) → HasFront P [] ⊎ HasNone P []
+    by_test : P [] ⊎ (P [] → ⊥) → HasPrefix P [] ⊎ HasNone P []
     by_test (inl has) = inl ([], [], has, refl)
     by_test (inr out) = inr (none_end P out)
-fronts P test (e ∷ q) = by_test (test []) (fronts (λ a. P (e ∷ a)) (λ a. test (e ∷ a)) q)
+prefixes P test (e ∷ q) = by_test (test []) (prefixes (λ a. P (e ∷ a)) (λ a. test (e ∷ a)) q)
   where
-    by_test : P [] ⊎ (P [] → ⊥) → HasFront (λ a. P (e ∷ a)) q ⊎ HasNone (λ a. P (e ∷ a)) q → HasFront P (e ∷ q) ⊎ HasNone P (e ∷ q)
+    by_test : P [] ⊎ (P [] → ⊥) → HasPrefix (λ a. P (e ∷ a)) q ⊎ HasNone (λ a. P (e ∷ a)) q → HasPrefix P (e ∷ q) ⊎ HasNone P (e ∷ q)
     by_test (inl has) later = inl ([], e ∷ q, has, refl)
     by_test (inr out) (inl (above, rest, has, is)) = inl (e ∷ above, rest, has, ap (λ p. e ∷ p) is)
     by_test (inr out) (inr none) = inr (none_more P e q out none)
@@ -68,12 +68,12 @@ places_tell None (Some SetItem) = inr (λ is. true≢false (sym (ap is_leaf_plac
 places_tell None (Some MapItem) = inr (λ is. true≢false (sym (ap is_leaf_place is.1)))
 
 pub carried_once : CarriedIsOne
-carried_once s t c r x left right = same r x (λ p. by_front p (fronts (IsNewLeaf s t) (λ q. places_tell (place_of s q) (place_of t q)) p))
+carried_once s t c r x left right = same r x (λ p. from_prefix p (prefixes (IsNewLeaf s t) (λ q. places_tell (place_of s q) (place_of t q)) p))
   where
-    at_front : (p above rest : PathTexts) → IsNewLeaf s t above → p ≡ above ++ rest → fin.get r p ≡ fin.get x p
-    at_front p above [] new is = let there = is ∙ append-nil above in ap (fin.get r) there ∙ left.leaves above new ∙ sym (right.leaves above new) ∙ ap (fin.get x) (sym there)
-    at_front p above (e ∷ q) new is = ap (fin.get r) is ∙ left.below above e q new ∙ sym (right.below above e q new) ∙ ap (fin.get x) (sym is)
+    at_prefix : (p above rest : PathTexts) → IsNewLeaf s t above → p ≡ above ++ rest → fin.get r p ≡ fin.get x p
+    at_prefix p above [] new is = let there = is ∙ append-nil above in ap (fin.get r) there ∙ left.leaves above new ∙ sym (right.leaves above new) ∙ ap (fin.get x) (sym there)
+    at_prefix p above (e ∷ q) new is = ap (fin.get r) is ∙ left.below above e q new ∙ sym (right.below above e q new) ∙ ap (fin.get x) (sym is)
 
-    by_front : (p : PathTexts) → HasFront (IsNewLeaf s t) p ⊎ HasNone (IsNewLeaf s t) p → fin.get r p ≡ fin.get x p
-    by_front p (inl (above, rest, new, is)) = at_front p above rest new is
-    by_front p (inr none) = left.kept p none ∙ sym (right.kept p none)
+    from_prefix : (p : PathTexts) → HasPrefix (IsNewLeaf s t) p ⊎ HasNone (IsNewLeaf s t) p → fin.get r p ≡ fin.get x p
+    from_prefix p (inl (above, rest, new, is)) = at_prefix p above rest new is
+    from_prefix p (inr none) = left.kept p none ∙ sym (right.kept p none)

@@ -16,7 +16,7 @@ use Rattle.fieldpath.specs.Elements.{name_text, field_name}
 use Rattle.fieldpath.specs.Paths.{PathTexts}
 use Rattle.fieldpath.specs.Scalars.{ascend}
 use Rattle.pathmap.specs.Contents.{Content, nothing, here, over}
-use Rattle.pathmap.specs.Contents as standing
+use Rattle.pathmap.specs.Contents as leaf_value
 use Rattle.pathmap.specs.Insides.{inside, heads}
 use Rattle.pathmap.specs.Levels.{has_path}
 use Rattle.pathmap.proofs.Contents.{same, either, get-nothing, get-over, get-here-below}
@@ -26,10 +26,10 @@ use Rattle.pathmap.proofs.Insides.{get-inside}
 use Rattle.schema.specs.Lawful.{names_of, item_is_lawful, is_scalar, is_well_formed, are_well_formed, depth_of, fields_depth, depth_limit, is_lawful}
 use Rattle.schema.specs.Shape.{atomic, set, keyed, Shape, text, whole, truth, struct_of, map_of, list_of, Fields, no_fields, field, shape_at}
 use Rattle.schema.specs.Becoming.{becomes, fields_become, is_same_kind}
-use Rattle.typed.specs.Placed.{is_field, IsItem, IsPlaced, ArePlaced}
+use Rattle.typed.specs.WellTyped.{is_field, IsItem, IsWellTyped, AreWellTyped}
 use Rattle.typed.specs.Printing.{object_or_none, array_or_none, with_member, each_member, each_item, scalar_in, print, print_item, print_fields}
 use Rattle.typed.specs.Printing as printing
-use Rattle.typed.proofs.Fitting.{contents_placed}
+use Rattle.typed.proofs.Fitting.{contents_well_typed}
 use Rattle.typed.proofs.KeyFields.{ascend_rising}
 use Rattle.typed.proofs.Prints.{print_fields-nothing}
 use Rattle.typed.proofs.Spelling.{printed_textual}
@@ -48,13 +48,13 @@ bare_inside c e none = same (inside e c) nothing (λ q. get-inside e c q ∙ non
 get_bare : (c : Content) (e : List ℕ) (q : PathTexts) → inside e c ≡ nothing → fin.get c (e ∷ q) ≡ None
 get_bare c e q bare = sym (get-inside e c q) ∙ ap (λ d. fin.get d q) bare ∙ get-nothing q
 
-pub inside-marked : (g : List ℕ) (c : Content) → inside g (over (here standing.mark) c) ≡ inside g c
+pub inside-marked : (g : List ℕ) (c : Content) → inside g (over (here leaf_value.mark) c) ≡ inside g c
 inside-marked g c =
-    same (inside g (over (here standing.mark) c)) (inside g c) (λ q.
-    get-inside g (over (here standing.mark) c) q ∙ get-over (here standing.mark) c (g ∷ q) ∙ ap (λ o. either o (fin.get c (g ∷ q))) (get-here-below standing.mark g q) ∙ sym (get-inside g c q))
+    same (inside g (over (here leaf_value.mark) c)) (inside g c) (λ q.
+    get-inside g (over (here leaf_value.mark) c) q ∙ get-over (here leaf_value.mark) c (g ∷ q) ∙ ap (λ o. either o (fin.get c (g ∷ q))) (get-here-below leaf_value.mark g q) ∙ sym (get-inside g c q))
 
-same_carries : (s t : Shape) → s ≡ t → (c : Content) → IsPlaced s c → Carries s t c c
-same_carries s t is c placed = subst (λ u. IsPlaced u c × (print u c ≡ print s c)) is (placed, refl)
+same_carries : (s t : Shape) → s ≡ t → (c : Content) → IsWellTyped s c → Carries s t c c
+same_carries s t is c well_typed = subst (λ u. IsWellTyped u c × (print u c ≡ print s c)) is (well_typed, refl)
 
 -- ---- fields
 
@@ -74,14 +74,14 @@ module _ (all others : Fields) (c r : Content) (to : fields_become true all othe
   bare_still : (e : List ℕ) → inside e c ≡ nothing → inside e r ≡ nothing
   bare_still e bare = at e ∙ ap (in_field all others (field_name e)) bare ∙ field-none all others (field_name e)
 
-  struct_placed : (fs gs : Fields) → AllAt all fs → AllAt others gs → fields_become true fs gs ≡ true → FieldsCarry fs gs c → ArePlaced gs r
-  struct_placed fs no_fields old new h carry = tt
-  struct_placed no_fields (field g t rest) old new h carry = never h
-  struct_placed (field f s more) (field g t rest) old new h carry =
+  struct_well_typed : (fs gs : Fields) → AllAt all fs → AllAt others gs → fields_become true fs gs ≡ true → FieldsCarry fs gs c → AreWellTyped gs r
+  struct_well_typed fs no_fields old new h carry = tt
+  struct_well_typed no_fields (field g t rest) old new h carry = never h
+  struct_well_typed (field f s more) (field g t rest) old new h carry =
       let named = and_parts (bytes_eq f g) (becomes true s t && fields_become true more rest) h in
       let is = (bytes_eq-Decides f g).0 named.0 in (
-        subst (IsPlaced t) (sym (ap (λ n. inside (name_text n) r) (sym is) ∙ field_is f s t old.0 (ap (λ n. shape_at n others) is ∙ new.0))) carry.0.0,
-        struct_placed more rest old.1 new.1 (and_parts (becomes true s t) (fields_become true more rest) named.1).1 carry.1,
+        subst (IsWellTyped t) (sym (ap (λ n. inside (name_text n) r) (sym is) ∙ field_is f s t old.0 (ap (λ n. shape_at n others) is ∙ new.0))) carry.0.0,
+        struct_well_typed more rest old.1 new.1 (and_parts (becomes true s t) (fields_become true more rest) named.1).1 carry.1,
       )
 
   struct_printed : (fs gs : Fields) → AllAt all fs → AllAt others gs → fields_become true fs gs ≡ true → FieldsCarry fs gs c → (ms : Members) → print_fields gs r ms ≡ print_fields fs c ms
@@ -101,9 +101,9 @@ same_field all others to e = ap (list_any (λ f. bytes_eq e (name_text f))) (nam
 pub fields_at : (all others : Fields) (c : Content) (e : List ℕ) → inside e (under_each (λ g. in_field all others (field_name g) (inside g c)) (heads c)) ≡ in_field all others (field_name e) (inside e c)
 fields_at all others c = inside-all (λ g. in_field all others (field_name g) (inside g c)) c (λ g bare. ap (in_field all others (field_name g)) bare ∙ field-none all others (field_name g))
 
-struct_carries : (all others : Fields) → is_well_formed (struct_of all false) ≡ true → is_well_formed (struct_of others false) ≡ true → fields_become true all others ≡ true → (c : Content) → IsPlaced (struct_of all false) c
+struct_carries : (all others : Fields) → is_well_formed (struct_of all false) ≡ true → is_well_formed (struct_of others false) ≡ true → fields_become true all others ≡ true → (c : Content) → IsWellTyped (struct_of all false) c
     → FieldsCarry all others c → Carries (struct_of all false) (struct_of others false) c (under_each (λ e. in_field all others (field_name e) (inside e c)) (heads c))
-struct_carries all others a b to c placed carry =
+struct_carries all others a b to c well_typed carry =
     let g = λ (e : List ℕ). in_field all others (field_name e) (inside e c) in
     let r = under_each g (heads c) in
     let at = fields_at all others c in
@@ -112,9 +112,9 @@ struct_carries all others a b to c placed carry =
       (
         (
           top-each g (heads c),
-          λ e q out. get_bare r e q (bare_still all others c r to at e (bare_inside c e (λ p. placed.0.1 e p (same_field all others to e ∙ out)))),
+          λ e q out. get_bare r e q (bare_still all others c r to at e (bare_inside c e (λ p. well_typed.0.1 e p (same_field all others to e ∙ out)))),
         ),
-        struct_placed all others c r to at all others old new to carry,
+        struct_well_typed all others c r to at all others old new to carry,
       ),
       ap object_or_none (struct_printed all others c r to at all others old new to carry no_members),
     )
@@ -126,10 +126,10 @@ ItemCarries names s t e c r = IsItem names t e r × ((ms : Members) → print_it
 
 item_struct : (names : List (List ℕ)) (all others : Fields) (was is : Bool) → is_well_formed (struct_of all was) ≡ true → is_well_formed (struct_of others is) ≡ true → fields_become true all others ≡ true → (e : List ℕ) (c : Content)
     → IsItem names (struct_of all was) e c → FieldsCarry all others c
-    → ItemCarries names (struct_of all was) (struct_of others is) e c (over (here standing.mark) (under_each (λ g. in_field all others (field_name g) (inside g c)) (heads c)))
-item_struct names all others was is a b to e c ((ks, read_as, fit, top, none, bare), placed) carry =
+    → ItemCarries names (struct_of all was) (struct_of others is) e c (over (here leaf_value.mark) (under_each (λ g. in_field all others (field_name g) (inside g c)) (heads c)))
+item_struct names all others was is a b to e c ((ks, read_as, fit, top, none, bare), well_typed) carry =
     let u = under_each (λ g. in_field all others (field_name g) (inside g c)) (heads c) in
-    let r = over (here standing.mark) u in
+    let r = over (here leaf_value.mark) u in
     let at : (g : List ℕ) → inside g r ≡ in_field all others (field_name g) (inside g c) = λ g. inside-marked g u ∙ fields_at all others c g in
     let formed = and_parts (ascend (names_of all)) (are_well_formed all) a in
     let formed_then = and_parts (ascend (names_of others)) (are_well_formed others) b in
@@ -140,22 +140,22 @@ item_struct names all others was is a b to e c ((ks, read_as, fit, top, none, ba
           ks,
           read_as,
           sym (keys_fit_same all others (both_at all others formed.1 formed_then.1 to) names ks) ∙ fit,
-          get-over (here standing.mark) u [] ∙ ap (λ x. either x (fin.get u [])) (get-here-top standing.mark),
+          get-over (here leaf_value.mark) u [] ∙ ap (λ x. either x (fin.get u [])) (get-here-top leaf_value.mark),
           (λ g q out. get_bare r g q (bare_still all others c r to at g (bare_inside c g (λ p. none g p (same_field all others to g ∙ out))))),
           (λ f key. bare_still all others c r to at (name_text f) (bare f key)),
         ),
-        struct_placed all others c r to at all others old new to carry,
+        struct_well_typed all others c r to at all others old new to carry,
       ),
       (λ ms. struct_printed all others c r to at all others old new to carry ms),
     )
 
 pub item_top : (names : List (List ℕ)) (s : Shape) (e : List ℕ) (c : Content) → IsItem names s e c → has_path c ≡ true
-item_top names text e c placed = absurd placed
-item_top names whole e c placed = absurd placed
-item_top names truth e c placed = absurd placed
-item_top names (struct_of all was) e c placed = one_path c [] (ap is_some placed.0.3)
-item_top names (map_of s was) e c placed = absurd placed
-item_top names (list_of s was) e c placed = absurd placed
+item_top names text e c well_typed = absurd well_typed
+item_top names whole e c well_typed = absurd well_typed
+item_top names truth e c well_typed = absurd well_typed
+item_top names (struct_of all was) e c well_typed = one_path c [] (ap is_some well_typed.0.3)
+item_top names (map_of s was) e c well_typed = absurd well_typed
+item_top names (list_of s was) e c well_typed = absurd well_typed
 
 item-nothing : (s : Shape) (ms : Members) → print_item s nothing ms ≡ ms
 item-nothing text ms = refl
@@ -165,15 +165,15 @@ item-nothing (struct_of all was) ms = print_fields-nothing all ms
 item-nothing (map_of s was) ms = refl
 item-nothing (list_of s was) ms = refl
 
-module _ (names : List (List ℕ)) (s t : Shape) (c : Content) (placed : (e : List ℕ) → (inside e c ≡ nothing) ⊎ IsItem names s e (inside e c))
+module _ (names : List (List ℕ)) (s t : Shape) (c : Content) (well_typed : (e : List ℕ) → (inside e c ≡ nothing) ⊎ IsItem names s e (inside e c))
     (carry : (e : List ℕ) → IsItem names s e (inside e c) → ItemCarries names s t e (inside e c) (in_item s t (inside e c))) where
   item_there : (e : List ℕ) → IsItem names s e (inside e c) → inside e (under_each (λ e. in_item s t (inside e c)) (heads c)) ≡ in_item s t (inside e c)
   item_there e is = inside-there (λ e. in_item s t (inside e c)) c e (item_top names s e (inside e c) is)
 
-  item_placed : (e : List ℕ) → (inside e c ≡ nothing) ⊎ IsItem names s e (inside e c)
+  item_well_typed : (e : List ℕ) → (inside e c ≡ nothing) ⊎ IsItem names s e (inside e c)
       → (inside e (under_each (λ e. in_item s t (inside e c)) (heads c)) ≡ nothing) ⊎ IsItem names t e (inside e (under_each (λ e. in_item s t (inside e c)) (heads c)))
-  item_placed e (inl bare) = inl (inside-bare (λ e. in_item s t (inside e c)) c e bare)
-  item_placed e (inr is) = inr (subst (IsItem names t e) (sym (item_there e is)) (carry e is).0)
+  item_well_typed e (inl bare) = inl (inside-bare (λ e. in_item s t (inside e c)) c e bare)
+  item_well_typed e (inr is) = inr (subst (IsItem names t e) (sym (item_there e is)) (carry e is).0)
 
   item_printed : (e : List ℕ) → (inside e c ≡ nothing) ⊎ IsItem names s e (inside e c) → (ms : Members)
       → print_item t (inside e (under_each (λ e. in_item s t (inside e c)) (heads c))) ms ≡ print_item s (inside e c) ms
@@ -187,25 +187,25 @@ module _ (names : List (List ℕ)) (s t : Shape) (c : Content) (placed : (e : Li
 
   list_carries : Carries (list_of s (keyed names)) (list_of t (keyed names)) c (under_each (λ e. in_item s t (inside e c)) (heads c))
   list_carries = (
-    (top-each (λ e. in_item s t (inside e c)) (heads c), λ e. item_placed e (placed e)),
+    (top-each (λ e. in_item s t (inside e c)) (heads c), λ e. item_well_typed e (well_typed e)),
     ap₂ (λ (f : List ℕ → Members → Members) (hs : List (List ℕ)). array_or_none (each_item (λ e. option_map (λ ms. object (f e ms)) (printing.keys_in e)) hs))
-        (λ i e ms. item_printed e (placed e) ms i) (heads_same c (under_each (λ e. in_item s t (inside e c)) (heads c)) (λ e. item_path e (placed e))),
+        (λ i e ms. item_printed e (well_typed e) ms i) (heads_same c (under_each (λ e. in_item s t (inside e c)) (heads c)) (λ e. item_path e (well_typed e))),
   )
 
 -- ---- maps
 
-map_carries : (s t : Shape) → is_well_formed s ≡ true → (c : Content) → IsPlaced (map_of s false) c → ((e : List ℕ) → Carries s t (inside e c) (carried_parts s t (inside e c)))
+map_carries : (s t : Shape) → is_well_formed s ≡ true → (c : Content) → IsWellTyped (map_of s false) c → ((e : List ℕ) → Carries s t (inside e c) (carried_parts s t (inside e c)))
     → Carries (map_of s false) (map_of t false) c (under_each (λ e. carried_parts s t (inside e c)) (heads c))
-map_carries s t a c placed each =
+map_carries s t a c well_typed each =
     let g = λ (e : List ℕ). carried_parts s t (inside e c) in
     let r = under_each g (heads c) in
     let at = inside-all g c (λ e bare. ap (carried_parts s t) bare ∙ carried_parts-nothing s t) in (
       (
-        (top-each g (heads c), λ e q out. get_bare r e q (at e ∙ ap (carried_parts s t) (bare_inside c e (λ p. placed.0.1 e p out)) ∙ carried_parts-nothing s t)),
-        λ e. subst (IsPlaced t) (sym (at e)) (each e).0,
+        (top-each g (heads c), λ e q out. get_bare r e q (at e ∙ ap (carried_parts s t) (bare_inside c e (λ p. well_typed.0.1 e p out)) ∙ carried_parts-nothing s t)),
+        λ e. subst (IsWellTyped t) (sym (at e)) (each e).0,
       ),
       ap₂ (λ (f : List ℕ → Option Data) (hs : List (List ℕ)). object_or_none (each_member f hs no_members)) (λ i e. (ap (print t) (at e) ∙ (each e).1) i)
-          (heads_same c r (λ e. ap has_path (at e) ∙ path_same s t (inside e c) a (placed.1 e) (each e))),
+          (heads_same c r (λ e. ap has_path (at e) ∙ path_same s t (inside e c) a (well_typed.1 e) (each e))),
     )
 
 -- ---- new leaves
@@ -213,8 +213,8 @@ map_carries s t a c placed each =
 le_is : (m n : ℕ) → m ≤ n → nat_le m n ≡ true
 le_is m n h = grind (arith, nat_tests)
 
-spelled : (s : Shape) (c : Content) (d : Data) → is_well_formed s ≡ true → nat_le (depth_of s) (depth_limit s) ≡ true → IsPlaced s c → print s c ≡ Some d → read (compact_text d) ≡ Some d
-spelled s c d a deep placed is = (printed_textual s c d (both_true a deep) ((contents_placed s c a).1 placed) is).3
+encodable : (s : Shape) (c : Content) (d : Data) → is_well_formed s ≡ true → nat_le (depth_of s) (depth_limit s) ≡ true → IsWellTyped s c → print s c ≡ Some d → read (compact_text d) ≡ Some d
+encodable s c d a deep well_typed is = (printed_textual s c d (both_true a deep) ((contents_well_typed s c a).1 well_typed) is).3
 
 -- ---- the law
 
@@ -234,94 +234,94 @@ keyed_to names others s t a b h =
     (λ same later. (names_same names others (keyed_ascend names s (and_parts (item_is_lawful (keyed names) s) (is_well_formed s) a).0) (keyed_ascend others t (and_parts (item_is_lawful (keyed others) t) (is_well_formed t) b).0) same, later)) never
 
 mutual
-  pub carries : (s t : Shape) → is_well_formed s ≡ true → is_well_formed t ≡ true → depth_of s ≤ 15 → becomes true s t ≡ true → (c : Content) → IsPlaced s c → Carries s t c (carried_parts s t c)
-  carries text t a b deep h c placed = same_carries text t (same_shape text t a b h) c placed
-  carries whole t a b deep h c placed = same_carries whole t (same_shape whole t a b h) c placed
-  carries truth t a b deep h c placed = same_carries truth t (same_shape truth t a b h) c placed
-  carries (struct_of all was) text a b deep h c placed = never h
-  carries (struct_of all was) whole a b deep h c placed = never h
-  carries (struct_of all was) truth a b deep h c placed = never h
-  carries (struct_of all true) (struct_of others true) a b deep h c placed =
-      (atomic_stays (struct_of all true) (struct_of others true) c (shape_follows true (struct_of all true) (struct_of others true) a b h) placed, refl)
-  carries (struct_of all true) (struct_of others false) a b deep h c placed = never h
-  carries (struct_of all false) (struct_of others true) a b deep h c placed = never h
-  carries (struct_of all false) (struct_of others false) a b deep h c placed =
-      struct_carries all others a b h c placed
-      (fields_carry all others (and_parts (ascend (names_of all)) (are_well_formed all) a).1 (and_parts (ascend (names_of others)) (are_well_formed others) b).1 (less_deep (fields_depth all) deep) h c placed.1)
-  carries (struct_of all was) (map_of t is) a b deep h c placed = never h
-  carries (struct_of all was) (list_of t is) a b deep h c placed = never h
-  carries (map_of s was) text a b deep h c placed = never h
-  carries (map_of s was) whole a b deep h c placed = never h
-  carries (map_of s was) truth a b deep h c placed = never h
-  carries (map_of s was) (struct_of others is) a b deep h c placed = never h
-  carries (map_of s true) (map_of t true) a b deep h c placed = (atomic_stays (map_of s true) (map_of t true) c (shape_follows true (map_of s true) (map_of t true) a b h) placed, refl)
-  carries (map_of s true) (map_of t false) a b deep h c placed = never h
-  carries (map_of s false) (map_of t true) a b deep h c placed =
+  pub carries : (s t : Shape) → is_well_formed s ≡ true → is_well_formed t ≡ true → depth_of s ≤ 15 → becomes true s t ≡ true → (c : Content) → IsWellTyped s c → Carries s t c (carried_parts s t c)
+  carries text t a b deep h c well_typed = same_carries text t (same_shape text t a b h) c well_typed
+  carries whole t a b deep h c well_typed = same_carries whole t (same_shape whole t a b h) c well_typed
+  carries truth t a b deep h c well_typed = same_carries truth t (same_shape truth t a b h) c well_typed
+  carries (struct_of all was) text a b deep h c well_typed = never h
+  carries (struct_of all was) whole a b deep h c well_typed = never h
+  carries (struct_of all was) truth a b deep h c well_typed = never h
+  carries (struct_of all true) (struct_of others true) a b deep h c well_typed =
+      (atomic_stays (struct_of all true) (struct_of others true) c (shape_follows true (struct_of all true) (struct_of others true) a b h) well_typed, refl)
+  carries (struct_of all true) (struct_of others false) a b deep h c well_typed = never h
+  carries (struct_of all false) (struct_of others true) a b deep h c well_typed = never h
+  carries (struct_of all false) (struct_of others false) a b deep h c well_typed =
+      struct_carries all others a b h c well_typed
+      (fields_carry all others (and_parts (ascend (names_of all)) (are_well_formed all) a).1 (and_parts (ascend (names_of others)) (are_well_formed others) b).1 (less_deep (fields_depth all) deep) h c well_typed.1)
+  carries (struct_of all was) (map_of t is) a b deep h c well_typed = never h
+  carries (struct_of all was) (list_of t is) a b deep h c well_typed = never h
+  carries (map_of s was) text a b deep h c well_typed = never h
+  carries (map_of s was) whole a b deep h c well_typed = never h
+  carries (map_of s was) truth a b deep h c well_typed = never h
+  carries (map_of s was) (struct_of others is) a b deep h c well_typed = never h
+  carries (map_of s true) (map_of t true) a b deep h c well_typed = (atomic_stays (map_of s true) (map_of t true) c (shape_follows true (map_of s true) (map_of t true) a b h) well_typed, refl)
+  carries (map_of s true) (map_of t false) a b deep h c well_typed = never h
+  carries (map_of s false) (map_of t true) a b deep h c well_typed =
       new_leaf (map_of t true) (print (map_of s false) c) (λ d is. (
-        shape_follows true (map_of s false) (map_of t true) a b h d d (printed_plain (map_of s false) c d a placed is),
-        spelled (map_of s false) c d a (le_is (depth_of (map_of s false)) 15 deep) placed is,
+        shape_follows true (map_of s false) (map_of t true) a b h d d (printed_plain (map_of s false) c d a well_typed is),
+        encodable (map_of s false) c d a (le_is (depth_of (map_of s false)) 15 deep) well_typed is,
         object_leaf (each_member (λ e. print s (inside e c)) (heads c) no_members) d is,
       ))
-  carries (map_of s false) (map_of t false) a b deep h c placed = map_carries s t a c placed (λ e. carries s t a b (less_deep (depth_of s) deep) h (inside e c) (placed.1 e))
-  carries (map_of s was) (list_of t is) a b deep h c placed = never h
-  carries (list_of s was) text a b deep h c placed = never h
-  carries (list_of s was) whole a b deep h c placed = never h
-  carries (list_of s was) truth a b deep h c placed = never h
-  carries (list_of s was) (struct_of others is) a b deep h c placed = never h
-  carries (list_of s was) (map_of t is) a b deep h c placed = never h
-  carries (list_of s atomic) (list_of t atomic) a b deep h c placed = (atomic_stays (list_of s atomic) (list_of t atomic) c (shape_follows true (list_of s atomic) (list_of t atomic) a b h) placed, refl)
-  carries (list_of s atomic) (list_of t set) a b deep h c placed = never h
-  carries (list_of s atomic) (list_of t (keyed others)) a b deep h c placed = never h
-  carries (list_of s set) (list_of t atomic) a b deep h c placed =
+  carries (map_of s false) (map_of t false) a b deep h c well_typed = map_carries s t a c well_typed (λ e. carries s t a b (less_deep (depth_of s) deep) h (inside e c) (well_typed.1 e))
+  carries (map_of s was) (list_of t is) a b deep h c well_typed = never h
+  carries (list_of s was) text a b deep h c well_typed = never h
+  carries (list_of s was) whole a b deep h c well_typed = never h
+  carries (list_of s was) truth a b deep h c well_typed = never h
+  carries (list_of s was) (struct_of others is) a b deep h c well_typed = never h
+  carries (list_of s was) (map_of t is) a b deep h c well_typed = never h
+  carries (list_of s atomic) (list_of t atomic) a b deep h c well_typed = (atomic_stays (list_of s atomic) (list_of t atomic) c (shape_follows true (list_of s atomic) (list_of t atomic) a b h) well_typed, refl)
+  carries (list_of s atomic) (list_of t set) a b deep h c well_typed = never h
+  carries (list_of s atomic) (list_of t (keyed others)) a b deep h c well_typed = never h
+  carries (list_of s set) (list_of t atomic) a b deep h c well_typed =
       new_leaf (list_of t atomic) (print (list_of s set) c) (λ d is. (
-        shape_follows true (list_of s set) (list_of t atomic) a b h d d (printed_plain (list_of s set) c d a placed is),
-        spelled (list_of s set) c d a (le_is (depth_of (list_of s set)) 15 deep) placed is,
+        shape_follows true (list_of s set) (list_of t atomic) a b h d d (printed_plain (list_of s set) c d a well_typed is),
+        encodable (list_of s set) c d a (le_is (depth_of (list_of s set)) 15 deep) well_typed is,
         array_leaf (each_item scalar_in (heads c)) d is,
       ))
-  carries (list_of s set) (list_of t set) a b deep h c placed =
+  carries (list_of s set) (list_of t set) a b deep h c well_typed =
       let old = and_parts (is_scalar s) (is_well_formed s) a in
       let new = and_parts (is_scalar t) (is_well_formed t) b in
-      same_carries (list_of s set) (list_of t set) (ap (λ u. list_of u set) (scalar_same s t old.1 new.1 old.0 h)) c placed
-  carries (list_of s set) (list_of t (keyed others)) a b deep h c placed = never h
-  carries (list_of s (keyed names)) (list_of t atomic) a b deep h c placed =
+      same_carries (list_of s set) (list_of t set) (ap (λ u. list_of u set) (scalar_same s t old.1 new.1 old.0 h)) c well_typed
+  carries (list_of s set) (list_of t (keyed others)) a b deep h c well_typed = never h
+  carries (list_of s (keyed names)) (list_of t atomic) a b deep h c well_typed =
       new_leaf (list_of t atomic) (print (list_of s (keyed names)) c) (λ d is. (
-        shape_follows true (list_of s (keyed names)) (list_of t atomic) a b h d d (printed_plain (list_of s (keyed names)) c d a placed is),
-        spelled (list_of s (keyed names)) c d a (le_is (depth_of (list_of s (keyed names))) 15 deep) placed is,
+        shape_follows true (list_of s (keyed names)) (list_of t atomic) a b h d d (printed_plain (list_of s (keyed names)) c d a well_typed is),
+        encodable (list_of s (keyed names)) c d a (le_is (depth_of (list_of s (keyed names))) 15 deep) well_typed is,
         array_leaf (each_item (λ e. option_map (λ ms. object (print_item s (inside e c) ms)) (printing.keys_in e)) (heads c)) d is,
       ))
-  carries (list_of s (keyed names)) (list_of t set) a b deep h c placed = never h
-  carries (list_of s (keyed names)) (list_of t (keyed others)) a b deep h c placed =
+  carries (list_of s (keyed names)) (list_of t set) a b deep h c well_typed = never h
+  carries (list_of s (keyed names)) (list_of t (keyed others)) a b deep h c well_typed =
       let to = keyed_to names others s t a b h in
       let old = and_parts (item_is_lawful (keyed names) s) (is_well_formed s) a in
       let new = and_parts (item_is_lawful (keyed others) t) (is_well_formed t) b in
       subst (λ ns. Carries (list_of s (keyed names)) (list_of t (keyed ns)) c (under_each (λ e. in_item s t (inside e c)) (heads c))) to.0
-      (list_carries names s t c placed.1 (λ e is. item_carry names s t old.1 new.1 (less_deep (depth_of s) deep) to.1 e (inside e c) is))
+      (list_carries names s t c well_typed.1 (λ e is. item_carry names s t old.1 new.1 (less_deep (depth_of s) deep) to.1 e (inside e c) is))
 
   item_carry : (names : List (List ℕ)) (s t : Shape) → is_well_formed s ≡ true → is_well_formed t ≡ true → depth_of s ≤ 15 → becomes true s t ≡ true → (e : List ℕ) (c : Content) → IsItem names s e c → ItemCarries names s t e c (in_item s t c)
-  item_carry names text t a b deep h e c placed = absurd placed
-  item_carry names whole t a b deep h e c placed = absurd placed
-  item_carry names truth t a b deep h e c placed = absurd placed
-  item_carry names (map_of s was) t a b deep h e c placed = absurd placed
-  item_carry names (list_of s was) t a b deep h e c placed = absurd placed
-  item_carry names (struct_of all was) text a b deep h e c placed = never h
-  item_carry names (struct_of all was) whole a b deep h e c placed = never h
-  item_carry names (struct_of all was) truth a b deep h e c placed = never h
-  item_carry names (struct_of all was) (map_of t is) a b deep h e c placed = never h
-  item_carry names (struct_of all was) (list_of t is) a b deep h e c placed = never h
-  item_carry names (struct_of all was) (struct_of others is) a b deep h e c placed =
+  item_carry names text t a b deep h e c well_typed = absurd well_typed
+  item_carry names whole t a b deep h e c well_typed = absurd well_typed
+  item_carry names truth t a b deep h e c well_typed = absurd well_typed
+  item_carry names (map_of s was) t a b deep h e c well_typed = absurd well_typed
+  item_carry names (list_of s was) t a b deep h e c well_typed = absurd well_typed
+  item_carry names (struct_of all was) text a b deep h e c well_typed = never h
+  item_carry names (struct_of all was) whole a b deep h e c well_typed = never h
+  item_carry names (struct_of all was) truth a b deep h e c well_typed = never h
+  item_carry names (struct_of all was) (map_of t is) a b deep h e c well_typed = never h
+  item_carry names (struct_of all was) (list_of t is) a b deep h e c well_typed = never h
+  item_carry names (struct_of all was) (struct_of others is) a b deep h e c well_typed =
       let to = (and_parts (beq was is) (fields_become true all others) h).1 in
-      item_struct names all others was is a b to e c placed
-      (fields_carry all others (and_parts (ascend (names_of all)) (are_well_formed all) a).1 (and_parts (ascend (names_of others)) (are_well_formed others) b).1 (less_deep (fields_depth all) deep) to c placed.1)
+      item_struct names all others was is a b to e c well_typed
+      (fields_carry all others (and_parts (ascend (names_of all)) (are_well_formed all) a).1 (and_parts (ascend (names_of others)) (are_well_formed others) b).1 (less_deep (fields_depth all) deep) to c well_typed.1)
 
-  fields_carry : (fs gs : Fields) → are_well_formed fs ≡ true → are_well_formed gs ≡ true → fields_depth fs ≤ 15 → fields_become true fs gs ≡ true → (c : Content) → ArePlaced fs c → FieldsCarry fs gs c
-  fields_carry no_fields gs a b deep h c placed = tt
-  fields_carry (field f s more) no_fields a b deep h c placed = tt
-  fields_carry (field f s more) (field g t rest) a b deep h c placed =
+  fields_carry : (fs gs : Fields) → are_well_formed fs ≡ true → are_well_formed gs ≡ true → fields_depth fs ≤ 15 → fields_become true fs gs ≡ true → (c : Content) → AreWellTyped fs c → FieldsCarry fs gs c
+  fields_carry no_fields gs a b deep h c well_typed = tt
+  fields_carry (field f s more) no_fields a b deep h c well_typed = tt
+  fields_carry (field f s more) (field g t rest) a b deep h c well_typed =
       let named = and_parts (bytes_eq f g) (becomes true s t && fields_become true more rest) h in
       let parts = and_parts (becomes true s t) (fields_become true more rest) named.1 in
       let old = and_parts (is_well_formed s) (are_well_formed more) a in
       let new = and_parts (is_well_formed t) (are_well_formed rest) b in
-      (carries s t old.0 new.0 (left_deep (depth_of s) (fields_depth more) deep) parts.0 (inside (name_text f) c) placed.0, fields_carry more rest old.1 new.1 (right_deep (depth_of s) (fields_depth more) deep) parts.1 c placed.1)
+      (carries s t old.0 new.0 (left_deep (depth_of s) (fields_depth more) deep) parts.0 (inside (name_text f) c) well_typed.0, fields_carry more rest old.1 new.1 (right_deep (depth_of s) (fields_depth more) deep) parts.1 c well_typed.1)
 
 one_less : (n : ℕ) → suc n ≤ 16 → n ≤ 15
 one_less n h = omega (arith, h)
@@ -330,24 +330,24 @@ is_le : (m n : ℕ) → nat_le m n ≡ true → m ≤ n
 is_le m n h = grind (arith, nat_tests)
 
 -- a type's schema is a granular struct, and may nest one deeper
-pub lawful_carries : (s t : Shape) → is_lawful s ≡ true → is_well_formed t ≡ true → becomes true s t ≡ true → (c : Content) → IsPlaced s c → Carries s t c (carried_parts s t c)
-lawful_carries text t a b h c placed = carries text t refl b (omega arith) h c placed
-lawful_carries whole t a b h c placed = carries whole t refl b (omega arith) h c placed
-lawful_carries truth t a b h c placed = carries truth t refl b (omega arith) h c placed
-lawful_carries (struct_of all true) t a b h c placed =
-    let parts = and_parts (is_well_formed (struct_of all true)) (nat_le (depth_of (struct_of all true)) 15) a in carries (struct_of all true) t parts.0 b (is_le _ _ parts.1) h c placed
-lawful_carries (struct_of all false) text a b h c placed = never h
-lawful_carries (struct_of all false) whole a b h c placed = never h
-lawful_carries (struct_of all false) truth a b h c placed = never h
-lawful_carries (struct_of all false) (struct_of others true) a b h c placed = never h
-lawful_carries (struct_of all false) (struct_of others false) a b h c placed =
+pub lawful_carries : (s t : Shape) → is_lawful s ≡ true → is_well_formed t ≡ true → becomes true s t ≡ true → (c : Content) → IsWellTyped s c → Carries s t c (carried_parts s t c)
+lawful_carries text t a b h c well_typed = carries text t refl b (omega arith) h c well_typed
+lawful_carries whole t a b h c well_typed = carries whole t refl b (omega arith) h c well_typed
+lawful_carries truth t a b h c well_typed = carries truth t refl b (omega arith) h c well_typed
+lawful_carries (struct_of all true) t a b h c well_typed =
+    let parts = and_parts (is_well_formed (struct_of all true)) (nat_le (depth_of (struct_of all true)) 15) a in carries (struct_of all true) t parts.0 b (is_le _ _ parts.1) h c well_typed
+lawful_carries (struct_of all false) text a b h c well_typed = never h
+lawful_carries (struct_of all false) whole a b h c well_typed = never h
+lawful_carries (struct_of all false) truth a b h c well_typed = never h
+lawful_carries (struct_of all false) (struct_of others true) a b h c well_typed = never h
+lawful_carries (struct_of all false) (struct_of others false) a b h c well_typed =
     let parts = and_parts (is_well_formed (struct_of all false)) (nat_le (depth_of (struct_of all false)) 16) a in
     let deep : suc (fields_depth all) ≤ 16 = is_le (suc (fields_depth all)) 16 parts.1 in
-    struct_carries all others parts.0 b h c placed
-    (fields_carry all others (and_parts (ascend (names_of all)) (are_well_formed all) parts.0).1 (and_parts (ascend (names_of others)) (are_well_formed others) b).1 (one_less (fields_depth all) deep) h c placed.1)
-lawful_carries (struct_of all false) (map_of t is) a b h c placed = never h
-lawful_carries (struct_of all false) (list_of t is) a b h c placed = never h
-lawful_carries (map_of s was) t a b h c placed =
-    let parts = and_parts (is_well_formed (map_of s was)) (nat_le (depth_of (map_of s was)) 15) a in carries (map_of s was) t parts.0 b (is_le _ _ parts.1) h c placed
-lawful_carries (list_of s was) t a b h c placed =
-    let parts = and_parts (is_well_formed (list_of s was)) (nat_le (depth_of (list_of s was)) 15) a in carries (list_of s was) t parts.0 b (is_le _ _ parts.1) h c placed
+    struct_carries all others parts.0 b h c well_typed
+    (fields_carry all others (and_parts (ascend (names_of all)) (are_well_formed all) parts.0).1 (and_parts (ascend (names_of others)) (are_well_formed others) b).1 (one_less (fields_depth all) deep) h c well_typed.1)
+lawful_carries (struct_of all false) (map_of t is) a b h c well_typed = never h
+lawful_carries (struct_of all false) (list_of t is) a b h c well_typed = never h
+lawful_carries (map_of s was) t a b h c well_typed =
+    let parts = and_parts (is_well_formed (map_of s was)) (nat_le (depth_of (map_of s was)) 15) a in carries (map_of s was) t parts.0 b (is_le _ _ parts.1) h c well_typed
+lawful_carries (list_of s was) t a b h c well_typed =
+    let parts = and_parts (is_well_formed (list_of s was)) (nat_le (depth_of (list_of s was)) 15) a in carries (list_of s was) t parts.0 b (is_le _ _ parts.1) h c well_typed

@@ -10,8 +10,8 @@ use Rattle.serde_json.specs.Data.{Data, Members, no_members, member, Items, no_i
 use Rattle.serde_json.specs.Read.{read}
 use Rattle.serde_json.specs.Written.{compact_text}
 use Rattle.fieldpath.specs.Elements.{field_name}
-use Rattle.pathmap.specs.Contents.{Standing, Content, nothing, here, under, over}
-use Rattle.pathmap.specs.Contents as standing
+use Rattle.pathmap.specs.Contents.{LeafValue, Content, nothing, here, under, over}
+use Rattle.pathmap.specs.Contents as leaf_value
 use Rattle.pathmap.specs.Insides.{inside, heads}
 use Rattle.pathmap.specs.Levels.{has_path}
 use Rattle.pathmap.proofs.Contents.{same, either, get-nothing, get-over, get-under-top, nothing-over, over-nothing}
@@ -21,7 +21,7 @@ use Rattle.pathmap.proofs.Insides.{inside-over, inside-under}
 use Rattle.schema.specs.Lawful.{is_well_formed}
 use Rattle.schema.specs.Shape.{atomic, set, keyed, Shape, text, whole, truth, struct_of, map_of, list_of, Fields, no_fields, field, shape_at}
 use Rattle.schema.specs.Becoming.{becomes, fields_become}
-use Rattle.typed.specs.Placed.{IsAtomic, IsPlaced, ReadsBack}
+use Rattle.typed.specs.WellTyped.{IsAtomic, IsWellTyped, ReadsBack}
 use Rattle.typed.specs.Printing.{value_at, value_of, object_or_none, array_or_none, print}
 use Rattle.typed.specs.Reading.{plain_of, leaf}
 use Rattle.typed.proofs.Prints.{print-nothing}
@@ -120,7 +120,7 @@ abbrev mutual
   carried_parts (list_of s (keyed names)) t c = keyed_carried (print (list_of s (keyed names)) c) (λ u. under_each (λ e. in_item s u (inside e c)) (heads c)) t c
 
   pub in_item : Shape → Shape → Content → Content
-  in_item (struct_of all was) u c = item_carried (λ others. over (here standing.mark) (under_each (λ e. in_field all others (field_name e) (inside e c)) (heads c))) u
+  in_item (struct_of all was) u c = item_carried (λ others. over (here leaf_value.mark) (under_each (λ e. in_field all others (field_name e) (inside e c)) (heads c))) u
   in_item _ u c = nothing
 
   pub in_field : Fields → Fields → Option (List ℕ) → Content → Content
@@ -221,11 +221,11 @@ in_field-at (field known s more) (field g t rest) h f c =
 -- ---- what is to be shown: it has the new shape, and prints as before
 
 abbrev pub Carries : Shape → Shape → Content → Content → Type 0
-Carries s t c r = IsPlaced t r × (print t r ≡ print s c)
+Carries s t c r = IsWellTyped t r × (print t r ≡ print s c)
 
 -- something stands where something stood
-pub path_same : (s t : Shape) (c : Content) → is_well_formed s ≡ true → IsPlaced s c → Carries s t c (carried_parts s t c) → has_path (carried_parts s t c) ≡ has_path c
-path_same s t c lawful placed carries = by_test (has_path c) refl (has_path (carried_parts s t c)) refl
+pub path_same : (s t : Shape) (c : Content) → is_well_formed s ≡ true → IsWellTyped s c → Carries s t c (carried_parts s t c) → has_path (carried_parts s t c) ≡ has_path c
+path_same s t c lawful well_typed carries = by_test (has_path c) refl (has_path (carried_parts s t c)) refl
   where
     by_test : (b : Bool) → has_path c ≡ b → (x : Bool) → has_path (carried_parts s t c) ≡ x → x ≡ b
     by_test true is true new = refl
@@ -233,34 +233,34 @@ path_same s t c lawful placed carries = by_test (has_path c) refl (has_path (car
     by_test false is true new = absurd (true≢false (sym new ∙ ap (λ d. has_path (carried_parts s t d)) (no_path c is) ∙ ap has_path (carried_parts-nothing s t) ∙ nothing_path))
     by_test true is false new =
         let none : print s c ≡ None = sym carries.1 ∙ ap (print t) (no_path (carried_parts s t c) new) ∙ print-nothing t in
-        absurd (true≢false (sym is ∙ ap has_path (subst (λ o. ReadsBack s o c) none (round s c lawful placed)) ∙ nothing_path))
+        absurd (true≢false (sym is ∙ ap has_path (subst (λ o. ReadsBack s o c) none (round s c lawful well_typed)) ∙ nothing_path))
 
 -- ---- a new leaf
 
 -- a printed value that is neither `{}` nor `[]`, and that its compact JSON spells
 abbrev pub IsLeafOf : Shape → Data → Type 0
-IsLeafOf t d = (plain_of t d ≡ Ok d) × (read (compact_text d) ≡ Some d) × (leaf d ≡ here (standing.plain (compact_text d)))
+IsLeafOf t d = (plain_of t d ≡ Ok d) × (read (compact_text d) ≡ Some d) × (leaf d ≡ here (leaf_value.plain (compact_text d)))
 
 pub new_leaf : (t : Shape) (o : Option Data) → ((d : Data) → o ≡ Some d → IsLeafOf t d) → IsAtomic t (leaf_of o) × (value_at (leaf_of o) ≡ o)
 new_leaf t None is = (inl refl, ap (option_and_then value_of) (get-nothing []))
 new_leaf t (Some d) is =
     let whole = is d refl in (
       inr (d, whole.0, whole.1, refl),
-      ap (λ x. option_and_then value_of (fin.get x [])) whole.2 ∙ ap (option_and_then value_of) (get-here-top (standing.plain (compact_text d))) ∙ whole.1,
+      ap (λ x. option_and_then value_of (fin.get x [])) whole.2 ∙ ap (option_and_then value_of) (get-here-top (leaf_value.plain (compact_text d))) ∙ whole.1,
     )
 
-pub object_leaf : (ms : Members) (d : Data) → object_or_none ms ≡ Some d → leaf d ≡ here (standing.plain (compact_text d))
+pub object_leaf : (ms : Members) (d : Data) → object_or_none ms ≡ Some d → leaf d ≡ here (leaf_value.plain (compact_text d))
 object_leaf no_members d h = absurd (true≢false (sym (ap is_some h)))
 object_leaf (member k e ms) d h = subst (λ o. full_leaf o) h refl
   where
     full_leaf : Option Data → Type 0
     full_leaf None = Unit {0}
-    full_leaf (Some x) = leaf x ≡ here (standing.plain (compact_text x))
+    full_leaf (Some x) = leaf x ≡ here (leaf_value.plain (compact_text x))
 
-pub array_leaf : (ds : Items) (d : Data) → array_or_none ds ≡ Some d → leaf d ≡ here (standing.plain (compact_text d))
+pub array_leaf : (ds : Items) (d : Data) → array_or_none ds ≡ Some d → leaf d ≡ here (leaf_value.plain (compact_text d))
 array_leaf no_items d h = absurd (true≢false (sym (ap is_some h)))
 array_leaf (item e ds) d h = subst (λ o. full_leaf o) h refl
   where
     full_leaf : Option Data → Type 0
     full_leaf None = Unit {0}
-    full_leaf (Some x) = leaf x ≡ here (standing.plain (compact_text x))
+    full_leaf (Some x) = leaf x ≡ here (leaf_value.plain (compact_text x))

@@ -11,7 +11,7 @@ use Rattle.serde_json.specs.Written.{compact_text, number_text}
 use Rattle.fieldpath.specs.Elements.{Scalar, KeyFields, Element, NoElement, scalar_data, scalar_of, whole_scalar, key_members, key_text, scalar_text, element_text, keys_of_members, some_keys, keys_of, if_canonical, read_json, has_prefix, read_element}
 use Rattle.fieldpath.specs.Elements as element
 use Rattle.pathmap.specs.Contents.{Content, here}
-use Rattle.pathmap.specs.Contents as standing
+use Rattle.pathmap.specs.Contents as leaf_value
 use Rattle.schema.specs.Place.{fits}
 use Rattle.schema.specs.Shape.{Shape, text, whole, truth, struct_of, map_of, list_of}
 use Rattle.typed.specs.declared.fault.Cause.TheVariants.{WrongType}
@@ -121,8 +121,8 @@ key_element e ks h = by_prefix (has_prefix 102 e) (has_prefix 107 e) refl (has_p
     by_prefix false true t c None is h = absurd (true≢false (sym (ap is_ok h)))
     by_prefix false true t c (Some d) is h =
         let found = canonical e (keys_of d) (element.key ks) h in
-        let spelled = members_of d ks found.0 in
-        (spelled.0, ap (λ b. option_and_then as_object (option_and_then read (cond b (Some (drop 2 e)) None))) t ∙ ap (option_and_then as_object) is ∙ ap as_object spelled.1, spelled.2, found.1, ap keys_of (sym spelled.1) ∙ found.0)
+        let encodable = members_of d ks found.0 in
+        (encodable.0, ap (λ b. option_and_then as_object (option_and_then read (cond b (Some (drop 2 e)) None))) t ∙ ap (option_and_then as_object) is ∙ ap as_object encodable.1, encodable.2, found.1, ap keys_of (sym encodable.1) ∙ found.0)
     by_prefix false false t true None is h = absurd (true≢false (sym (ap is_ok h)))
     by_prefix false false t true (Some d) is h = absurd (true≢false (sym (ap is_key (canonical e (option_map element.value (scalar_of d)) (element.key ks) h).0) ∙ value-not_key (scalar_of d)))
     by_prefix false false t false r is h = absurd (true≢false (sym (ap is_ok h)))
@@ -228,7 +228,7 @@ read_whole (number n) h = by_whole (as_i64 n) refl h
     by_whole (Some z) is h = (
       refl,
       ap (λ o. below [] (λ m. number n) (some_or WrongType o)) is,
-      (here (standing.whole z), ap (λ o. below [] (λ m. here (standing.whole m)) (some_or WrongType o)) is),
+      (here (leaf_value.whole z), ap (λ o. below [] (λ m. here (leaf_value.whole m)) (some_or WrongType o)) is),
     )
 
 pub scalar_reads : (s : Shape) (d : Data) (v : Scalar) → fits s v ≡ true → scalar_of d ≡ Some v → ReadsAs s d

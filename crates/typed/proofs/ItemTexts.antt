@@ -20,7 +20,7 @@ use Rattle.pathmap.specs.Sizes.{no_path}
 use Rattle.schema.specs.Lawful.{names_of, item_is_lawful, is_well_formed, are_well_formed}
 use Rattle.schema.specs.Shape.{set, keyed, Shape, text, whole, truth, struct_of, map_of, list_of, Fields, no_fields, field}
 use Rattle.fieldpath.specs.Scalars.{ascend}
-use Rattle.typed.specs.Placed.{HasKeys, IsItem, IsSetItem}
+use Rattle.typed.specs.WellTyped.{HasKeys, IsItem, IsSetItem}
 use Rattle.typed.specs.Printing.{keys_in, print as printed, print_fields, print_item, scalar_in, with_member}
 use Rattle.typed.specs.Rows.{FieldsFit, Fits, IsScalarElement, item_of}
 use Rattle.typed.specs.Writes.{with_value, with_items}
@@ -60,14 +60,14 @@ all_wrote P inner c it start out none wrote = sym (ap (λ l. with_items inner (c
 -- an item of a set is what stands behind the prefix of its element's text
 pub scalar_item : (e : List ℕ) → IsScalarElement e → (d : Data) × (scalar_in e ≡ Some d) × (scalar_json e ≡ Some (compact_text d))
 unfolding scalar_text
-scalar_item e (v, is) = let spelled = value_element e v is in (spelled.0, spelled.1, ap scalar_json (sym spelled.3) ∙ ap Some (scalar_same spelled.0 v spelled.2))
+scalar_item e (v, is) = let encodable = value_element e v is in (encodable.0, encodable.1, ap scalar_json (sym encodable.3) ∙ ap Some (scalar_same encodable.0 v encodable.2))
 
 pub all_scalars : (s : Shape) (c : Content) → Fits (list_of s set) c → AllByRecursion IsScalarElement (heads c)
 all_scalars s c fits = every IsScalarElement (heads c) (λ e h. by_case e (lives c e h) (fits.1.1 e))
   where
     by_case : (e : List ℕ) → (inside e c ≡ nothing → ⊥) → (inside e c ≡ nothing) ⊎ IsSetItem s e (inside e c) → IsScalarElement e
     by_case e some (inl bare) = absurd (some bare)
-    by_case e some (inr placed) = (placed.0, placed.1)
+    by_case e some (inr well_typed) = (well_typed.0, well_typed.1)
 
 -- ---- one key field
 
@@ -86,9 +86,9 @@ ItemFits n s c e = (d : Data) × (keys_in e ≡ Some (member n d no_members)) ×
 key_item : (n : List ℕ) (all : Fields) (e : List ℕ) (c : Content) → HasKeys (n ∷ []) all e c → (d : Data) × (keys_in e ≡ Some (member n d no_members)) × (keys_json e ≡ Some (compact_text (object (member n d no_members))))
 unfolding key_text
 key_item n all e c (ks, is, fit, top, none, bare) =
-    let spelled = key_element e ks is in
-    let one = one_member n all spelled.0 (keys_fit (n ∷ []) all spelled.0 ks spelled.2 fit) in
-    (one.0, spelled.1 ∙ ap Some one.1, ap keys_json (sym spelled.3 ∙ keys_text spelled.0 ks spelled.2) ∙ ap (λ ms. Some (compact_text (object ms))) one.1)
+    let encodable = key_element e ks is in
+    let one = one_member n all encodable.0 (keys_fit (n ∷ []) all encodable.0 ks encodable.2 fit) in
+    (one.0, encodable.1 ∙ ap Some one.1, ap keys_json (sym encodable.3 ∙ keys_text encodable.0 ks encodable.2) ∙ ap (λ ms. Some (compact_text (object ms))) one.1)
 
 pub all_items : (n : List ℕ) (s : Shape) (c : Content) → Fits (list_of s (keyed (n ∷ []))) c → AllByRecursion (ItemFits n s c) (heads c)
 all_items n s c fits = every (ItemFits n s c) (heads c) (λ e h. by_case s (and_parts (item_is_lawful (keyed (n ∷ [])) s) (is_well_formed s) fits.0).1 e (lives c e h) (fits.1.1 e))
@@ -97,19 +97,19 @@ all_items n s c fits = every (ItemFits n s c) (heads c) (λ e h. by_case s (and_
     named = ap (λ b. b || false) ((bytes_decides n n).1 refl)
 
     by_shape : (t : Shape) → is_well_formed t ≡ true → (e : List ℕ) → IsItem (n ∷ []) t e (inside e c) → ItemFits n t c e
-    by_shape text formed e placed = absurd placed
-    by_shape whole formed e placed = absurd placed
-    by_shape truth formed e placed = absurd placed
-    by_shape (map_of t b) formed e placed = absurd placed
-    by_shape (list_of t kind) formed e placed = absurd placed
-    by_shape (struct_of all b) formed e placed =
-        let k = key_item n all e (inside e c) placed.0 in
+    by_shape text formed e well_typed = absurd well_typed
+    by_shape whole formed e well_typed = absurd well_typed
+    by_shape truth formed e well_typed = absurd well_typed
+    by_shape (map_of t b) formed e well_typed = absurd well_typed
+    by_shape (list_of t kind) formed e well_typed = absurd well_typed
+    by_shape (struct_of all b) formed e well_typed =
+        let k = key_item n all e (inside e c) well_typed.0 in
         let parts = and_parts (ascend (names_of all)) (are_well_formed all) formed in
-        (k.0, k.1, k.2, (all_fit all (inside e c) parts.1 placed.1, parts.0, placed.0.5 n named))
+        (k.0, k.1, k.2, (all_fit all (inside e c) parts.1 well_typed.1, parts.0, well_typed.0.5 n named))
 
     by_case : (t : Shape) → is_well_formed t ≡ true → (e : List ℕ) → (inside e c ≡ nothing → ⊥) → (inside e c ≡ nothing) ⊎ IsItem (n ∷ []) t e (inside e c) → ItemFits n t c e
     by_case t formed e some (inl bare) = absurd (some bare)
-    by_case t formed e some (inr placed) = by_shape t formed e placed
+    by_case t formed e some (inr well_typed) = by_shape t formed e well_typed
 
 same_text : (t u : List ℕ) → ◌≡◌ {A = Option (List ℕ)} (Some t) (Some u) → t ≡ u
 same_text t u h = cc

@@ -10,7 +10,7 @@ use Rattle.pathmap.proofs.Insides.{inside_others}
 use Rattle.pathmap.proofs.Levels.{under-nothing}
 use Rattle.typed.specs.declared.fault.ReadFault.{ReadFault}
 use Rattle.typed.specs.declared.fault.ReadFault.TheVariants as faults
-use Rattle.typed.specs.Faults.{Read, Tells, fault_in}
+use Rattle.typed.specs.Faults.{Read, ReportsFault, fault_in}
 use Rattle.typed.specs.Reading.{at_field, joined}
 use Rattle.typed.specs.Steps.{unless_key}
 use Rattle.typed.proofs.Floats.{err_not_ok, ok_is}
@@ -29,16 +29,16 @@ joined-joined (Ok x) (Ok y) (Err e) = refl
 joined-joined (Ok x) (Ok y) (Ok z) = ap Ok (over-over x y z)
 
 -- a fault that comes after what has been read
-pub tells-after : (f : ReadFault) (g : Content) (rest : Read Content) → Tells f (fault_in rest) → Tells f (fault_in (joined (Ok g) rest))
-tells-after faults.Memory g rest h = tt
-tells-after (faults.Shape cause path) g (Ok x) h = absurd cc
-tells-after (faults.Shape cause path) g (Err e) h = h
+pub reports-after : (f : ReadFault) (g : Content) (rest : Read Content) → ReportsFault f (fault_in rest) → ReportsFault f (fault_in (joined (Ok g) rest))
+reports-after faults.Memory g rest h = tt
+reports-after (faults.Shape cause path) g (Ok x) h = absurd cc
+reports-after (faults.Shape cause path) g (Err e) h = h
 
 -- a fault that comes before what is left
-pub tells-before : (f : ReadFault) (one rest : Read Content) → Tells f (fault_in one) → Tells f (fault_in (joined one rest))
-tells-before faults.Memory one rest h = tt
-tells-before (faults.Shape cause path) (Ok x) rest h = absurd cc
-tells-before (faults.Shape cause path) (Err e) rest h = h
+pub reports-before : (f : ReadFault) (one rest : Read Content) → ReportsFault f (fault_in one) → ReportsFault f (fault_in (joined one rest))
+reports-before faults.Memory one rest h = tt
+reports-before (faults.Shape cause path) (Ok x) rest h = absurd cc
+reports-before (faults.Shape cause path) (Err e) rest h = h
 
 -- what is read of a key field adds nothing
 pub key_joins : (g : Content) (names : List (List ℕ)) (k : List ℕ) (answer : Read Content) (c : Content) → answer ≡ Ok c → list_any (bytes_eq k) names ≡ true → Ok g ≡ joined (Ok g) (at_field k (unless_key names k answer))

@@ -7,28 +7,28 @@ use Rattle.std.specs.FinSet as set
 use Rattle.std.specs.List.{list_any}
 use Rattle.std.specs.Str.{bytes_eq}
 use Rattle.fieldpath.specs.Paths.{PathTexts}
-use Rattle.pathmap.specs.Beside.{has_at_or_above, is_front}
-use Rattle.pathmap.specs.Contents.{Standing, Content, PathSet}
+use Rattle.pathmap.specs.Beside.{has_at_or_above, is_prefix}
+use Rattle.pathmap.specs.Contents.{LeafValue, Content, PathSet}
 use Rattle.pathmap.proofs.Contents.{path_cmp_antisymmetric, either, get-over}
 use Rattle.pathmap.proofs.Sets.{get-without}
 use Rattle.schema.specs.Shape.{Shape}
 use Rattle.typed.specs.Fitting.{FitsAt, IsClosed, IsContent, OversAreContents, RemainsAreContents, ReadingsAreContents}
-use Rattle.typed.proofs.Fitting.{no_mark_on_top, placed_content}
-use Rattle.typed.proofs.Placing.{placed}
+use Rattle.typed.proofs.Fitting.{no_mark_on_top, well_typed_content}
+use Rattle.typed.proofs.Placing.{well_typed}
 
-either_is : (P : Standing → Type 0) (a b : Option Standing) (v : Standing) → ((w : Standing) → a ≡ Some w → P w) → ((w : Standing) → b ≡ Some w → P w) → either a b ≡ Some v → P v
+either_is : (P : LeafValue → Type 0) (a b : Option LeafValue) (v : LeafValue) → ((w : LeafValue) → a ≡ Some w → P w) → ((w : LeafValue) → b ≡ Some w → P w) → either a b ≡ Some v → P v
 either_is P None b v mine theirs h = theirs v h
 either_is P (Some w) b v mine theirs h = mine v h
 
-one_of_two : (a b : Option Standing) (P : Type 0) → is_some (either a b) ≡ true → (is_some a ≡ true → P) → (is_some b ≡ true → P) → P
+one_of_two : (a b : Option LeafValue) (P : Type 0) → is_some (either a b) ≡ true → (is_some a ≡ true → P) → (is_some b ≡ true → P) → P
 one_of_two None b P h mine theirs = theirs h
 one_of_two (Some w) b P h mine theirs = mine h
 
-mine_stands : (a b : Option Standing) → is_some a ≡ true → is_some (either a b) ≡ true
+mine_stands : (a b : Option LeafValue) → is_some a ≡ true → is_some (either a b) ≡ true
 mine_stands None b h = absurd (true≢false (sym h))
 mine_stands (Some w) b h = refl
 
-theirs_stands : (a b : Option Standing) → is_some b ≡ true → is_some (either a b) ≡ true
+theirs_stands : (a b : Option LeafValue) → is_some b ≡ true → is_some (either a b) ≡ true
 theirs_stands None b h = h
 theirs_stands (Some w) b h = refl
 
@@ -40,7 +40,7 @@ over_content s c d mine theirs = (
       (λ t. mine_stands (fin.get c p) (fin.get d p) (mine.1 p q fit t)) (λ t. theirs_stands (fin.get c p) (fin.get d p) (theirs.1 p q fit t)),
 )
 
-left_is : (b : Bool) (o : Option Standing) (v : Standing) → cond b None o ≡ Some v → o ≡ Some v
+left_is : (b : Bool) (o : Option LeafValue) (v : LeafValue) → cond b None o ≡ Some v → o ≡ Some v
 left_is true o v h = absurd (true≢false (sym (ap is_some h)))
 left_is false o v h = h
 
@@ -56,14 +56,14 @@ any_more p q more (x ∷ xs) h = by_first (p x) refl h (any_more p q more xs)
     by_first true is h later = ap (λ b. b || list_any q xs) (more x is)
     by_first false is h later = other_too (q x) (list_any q xs) (later h)
 
-front_more : (x p q : PathTexts) → is_front x p ≡ true → is_front x (p ++ q) ≡ true
-front_more [] p q h = refl
-front_more (f ∷ x) [] q h = absurd (true≢false (sym h))
-front_more (f ∷ x) (g ∷ p) q h = let k = and_parts (bytes_eq f g) (is_front x p) h in both_true k.0 (front_more x p q k.1)
+prefix_more : (x p q : PathTexts) → is_prefix x p ≡ true → is_prefix x (p ++ q) ≡ true
+prefix_more [] p q h = refl
+prefix_more (f ∷ x) [] q h = absurd (true≢false (sym h))
+prefix_more (f ∷ x) (g ∷ p) q h = let k = and_parts (bytes_eq f g) (is_prefix x p) h in both_true k.0 (prefix_more x p q k.1)
 
 above_more : (s : PathSet) (p q : PathTexts) → has_at_or_above s p ≡ true → has_at_or_above s (p ++ q) ≡ true
 unfolding has_at_or_above
-above_more s p q h = any_more (λ x. is_front x p) (λ x. is_front x (p ++ q)) (λ x t. front_more x p q t) (set.items s) h
+above_more s p q h = any_more (λ x. is_prefix x p) (λ x. is_prefix x (p ++ q)) (λ x t. prefix_more x p q t) (set.items s) h
 
 pub without_content : RemainsAreContents
 without_content s c paths content = (
@@ -83,11 +83,11 @@ retained_content s c keep alike content = ((λ p v h. content.0 p v (kept_is (ke
     get-kept : (p : PathTexts) → fin.get (fin.retain_keys c keep) p ≡ cond (keep p) (fin.get c p) None
     get-kept p = fin.get-retain_keys c keep p (λ x t. ap keep (sym (path_cmp_antisymmetric p x t)))
 
-    kept_is : (b : Bool) (o : Option Standing) (v : Standing) → cond b o None ≡ Some v → o ≡ Some v
+    kept_is : (b : Bool) (o : Option LeafValue) (v : LeafValue) → cond b o None ≡ Some v → o ≡ Some v
     kept_is true o v h = h
     kept_is false o v h = absurd (true≢false (sym (ap is_some h)))
 
-    by_test : (a b : Bool) (o p : Option Standing) → a ≡ b → (is_some o ≡ true → is_some p ≡ true) → is_some (cond a o None) ≡ true → is_some (cond b p None) ≡ true
+    by_test : (a b : Bool) (o p : Option LeafValue) → a ≡ b → (is_some o ≡ true → is_some p ≡ true) → is_some (cond a o None) ≡ true → is_some (cond b p None) ≡ true
     by_test true true o p same stays h = stays h
     by_test true false o p same stays h = absurd (true≢false same)
     by_test false b o p same stays h = absurd (true≢false (sym h))
@@ -99,4 +99,4 @@ retained_content s c keep alike content = ((λ p v h. content.0 p v (kept_is (ke
         ∙ by_test (keep (f ∷ p ++ q)) (keep (f ∷ p)) (fin.get c (f ∷ p ++ q)) (fin.get c (f ∷ p)) (alike f (p ++ q) p) (content.1 (f ∷ p) q fit) (sym (ap is_some (get-kept (f ∷ p ++ q))) ∙ h)
 
 pub reading_content : ReadingsAreContents
-reading_content s d c lawful spelled shallow h = placed_content s c (placed s d c lawful spelled shallow h)
+reading_content s d c lawful encodable shallow h = well_typed_content s c (well_typed s d c lawful encodable shallow h)

@@ -13,11 +13,11 @@ use Rattle.pathmap.proofs.Levels.{under-nothing}
 use Rattle.schema.specs.Shape.{Fields, struct_of}
 use Rattle.typed.specs.declared.fault.Cause.TheVariants.{NotAnObject}
 use Rattle.typed.specs.declared.fault.ReadFault.{ReadFault}
-use Rattle.typed.specs.Faults.{Read, Tells, fault_in, and_then, below, some_or}
+use Rattle.typed.specs.Faults.{Read, ReportsFault, fault_in, and_then, below, some_or}
 use Rattle.typed.specs.Reading.{is_null, at_field, joined, one_member, members_at, content_of, content_of_field}
 use Rattle.typed.specs.Steps.{IsFree}
 use Rattle.typed.specs.Without.{Omitted, but, kept, members_kept, value_kept}
-use Rattle.typed.proofs.Faults.{tells-and_then, tells-within}
+use Rattle.typed.proofs.Faults.{reports-and_then, reports-within}
 use Rattle.typed.proofs.Joins.{joined-nothing}
 use Rattle.typed.proofs.Members.{AreMembersSoFar, members_begin, member_skipped, member_added, member_failed, member_new}
 use Rattle.typed.proofs.Plains.{AreBefore, Entry, before_all, before_left, before_left_too, first_below, left_sorted, members_after, members_after-after, members_after-none, put_last}
@@ -106,10 +106,10 @@ module _ (out : List ℕ → Bool) (keep : List ℕ → Data → Data) (inner : 
           member_added (reads out keep inner) (members_at inner (members_kept out keep all)) c it e left steps so_far k named (second_false (out k) (is_null (view e.1)) there) new
           (adds ∙ ap (λ r. joined (Ok c) (at_field k r)) (sym reads_here))
 
-      pub reading_fails : (f : ReadFault) → Tells f (fault_in (at_field k (inner k (keep k (view e.1))))) → Tells f (fault_in (members_at inner (members_kept out keep all)))
+      pub reading_fails : (f : ReadFault) → ReportsFault f (fault_in (at_field k (inner k (keep k (view e.1))))) → ReportsFault f (fault_in (members_at inner (members_kept out keep all)))
       reading_fails f h =
           member_failed (reads out keep inner) (members_at inner (members_kept out keep all)) c it e left steps so_far k named (second_false (out k) (is_null (view e.1)) there) f
-          (subst (λ r. Tells f (fault_in (at_field k r))) (sym reads_here) h)
+          (subst (λ r. ReportsFault f (fault_in (at_field k r))) (sym reads_here) h)
 
 -- ---- objects
 
@@ -126,10 +126,10 @@ module _ (out : List ℕ → Bool) (keep : List ℕ → Data → Data) where
       → content_of (struct_of all false) (value_kept out keep d) ≡ members_at (λ k e. content_of_field all k e) (members_kept out keep ms)
   struct_kept all d ms found = ap (λ r. and_then r (members_at (λ k e. content_of_field all k e))) (object_kept d ∙ ap (below [] (members_kept out keep)) found)
 
-  pub struct_fails : (all : Fields) (d : Data) (f : ReadFault) → Tells f (fault_in (some_or NotAnObject (as_object d))) → Tells f (fault_in (content_of (struct_of all false) (value_kept out keep d)))
+  pub struct_fails : (all : Fields) (d : Data) (f : ReadFault) → ReportsFault f (fault_in (some_or NotAnObject (as_object d))) → ReportsFault f (fault_in (content_of (struct_of all false) (value_kept out keep d)))
   struct_fails all d f h =
-      tells-and_then f (some_or NotAnObject (as_object (value_kept out keep d))) (members_at (λ k e. content_of_field all k e))
-      (subst (λ r. Tells f (fault_in r)) (sym (object_kept d)) (tells-within f (members_kept out keep) (some_or NotAnObject (as_object d)) h))
+      reports-and_then f (some_or NotAnObject (as_object (value_kept out keep d))) (members_at (λ k e. content_of_field all k e))
+      (subst (λ r. ReportsFault f (fault_in r)) (sym (object_kept d)) (reports-within f (members_kept out keep) (some_or NotAnObject (as_object d)) h))
 
   no_object : {P : Type 0} (ms : Members) → None ≡ Some ms → P
   no_object ms e = absurd (true≢false (sym (ap is_some e)))

@@ -15,12 +15,12 @@ use Rattle.pathmap.proofs.Heads.{inside-nothing}
 use Rattle.pathmap.proofs.Levels.{nothing_path}
 use Rattle.typed.specs.declared.fault.Cause.TheVariants.{DuplicateItem, KeyFieldMissing, NotAnObject, WrongType}
 use Rattle.typed.specs.declared.fault.ReadFault.{ReadFault}
-use Rattle.typed.specs.Faults.{Read, Tells, fault_in, below, and_then, shown_place, some_or}
+use Rattle.typed.specs.Faults.{Read, ReportsFault, fault_in, below, and_then, shown_place, some_or}
 use Rattle.typed.specs.Keyed.{keyed_members}
 use Rattle.typed.specs.Reading.{is_null, joined, marked, one_item, items_at, have_keys, keys_in, keyed_item, named_item, object_item}
 use Rattle.typed.proofs.Floats.{ok_is, err_not_ok}
 use Rattle.typed.specs.Steps.{AreSeen}
-use Rattle.typed.proofs.Joins.{joined-nothing, joined-none, joined-joined, tells-after}
+use Rattle.typed.proofs.Joins.{joined-nothing, joined-none, joined-joined, reports-after}
 
 pub repeated : (seen : List (List ℕ)) (i : ℕ) (e : List ℕ × Content) (read : Read (List ℕ × Content)) (rest : List (List ℕ) → Read Content) → read ≡ Ok e → list_any (bytes_eq e.0) seen ≡ true
     → fault_in (one_item seen (below (shown_place i) (λ x. x) read) rest) ≡ Some (DuplicateItem, [])
@@ -62,8 +62,8 @@ module _ (inner : Data → Read (List ℕ × Content)) (whole : Read Content) (c
         added.4,
       )
 
-  pub next_failed : (f : ReadFault) → ((rest : List (List ℕ) → Read Content) → Tells f (fault_in (one_item so_far.0 (below (shown_place i) (λ e. e) (inner d)) rest))) → Tells f (fault_in whole)
-  next_failed f h = subst (λ r. Tells f (fault_in r)) there (tells-after f c _ (h rest))
+  pub next_failed : (f : ReadFault) → ((rest : List (List ℕ) → Read Content) → ReportsFault f (fault_in (one_item so_far.0 (below (shown_place i) (λ e. e) (inner d)) rest))) → ReportsFault f (fault_in whole)
+  next_failed f h = subst (λ r. ReportsFault f (fault_in r)) there (reports-after f c _ (h rest))
 
 -- the same loop over a slice of values
 
@@ -85,7 +85,7 @@ module _ (inner : Data → Read (List ℕ × Content)) (whole : Read Content) (c
       → AreItemsSoFar inner whole new (i + 1) (drop (i + 1) all)
   item_added = next_added inner whole c i (items_view (drop i all)) (view v) (items_view (drop (i + 1) all)) steps_on so_far
 
-  pub item_failed : (f : ReadFault) → ((rest : List (List ℕ) → Read Content) → Tells f (fault_in (one_item so_far.0 (below (shown_place i) (λ e. e) (inner (view v))) rest))) → Tells f (fault_in whole)
+  pub item_failed : (f : ReadFault) → ((rest : List (List ℕ) → Read Content) → ReportsFault f (fault_in (one_item so_far.0 (below (shown_place i) (λ e. e) (inner (view v))) rest))) → ReportsFault f (fault_in whole)
   item_failed = next_failed inner whole c i (items_view (drop i all)) (view v) (items_view (drop (i + 1) all)) steps_on so_far
 
 -- ---- an item of a map list, once it is an object

@@ -7,13 +7,13 @@ use Rattle.serde_json.specs.Data.{Data, member}
 use Rattle.serde_json.specs.View.{view, members_view}
 use Rattle.fieldpath.specs.Elements.{name_text}
 use Rattle.fieldpath.specs.Scalars.{ascend}
-use Rattle.fieldpath.specs.Spelled.{member_names}
+use Rattle.fieldpath.specs.Encodable.{member_names}
 use Rattle.fieldpath.proofs.KeyFields.{ascend_keys}
 use Rattle.pathmap.specs.Contents.{Content, nothing}
 use Rattle.schema.specs.Shape.{shape, fields_in}
 use Rattle.schema.specs.declared.schema.Schema.{Schema}
 use Rattle.typed.specs.declared.fault.ReadFault.{ReadFault}
-use Rattle.typed.specs.Faults.{Read, Tells, fault_in}
+use Rattle.typed.specs.Faults.{Read, ReportsFault, fault_in}
 use Rattle.typed.specs.Reading.{is_null, at_field, joined, members_at, one_member, content_of, content_of_field}
 use Rattle.typed.specs.Steps.{IsFree}
 use Rattle.typed.proofs.Ascending.{AreReadTo, one_added, one_failed, one_free, one_null, one_skipped, read_begin, read_end}
@@ -53,7 +53,7 @@ module _ (inner : List ℕ → Data → Read Content) (whole : Read Content) (c 
       pub member_added : (d : Content) → Ok d ≡ joined (Ok c) (at_field k (inner k (view e.1))) → AreMembersSoFar inner whole d left
       member_added = one_added inner whole c (members_view it) k (view e.1) (members_view left) there so_far has
 
-      pub member_failed : (f : ReadFault) → Tells f (fault_in (at_field k (inner k (view e.1)))) → Tells f (fault_in whole)
+      pub member_failed : (f : ReadFault) → ReportsFault f (fault_in (at_field k (inner k (view e.1)))) → ReportsFault f (fault_in whole)
       member_failed = one_failed inner whole c (members_view it) k (view e.1) (members_view left) there so_far has
 
 -- ---- fields

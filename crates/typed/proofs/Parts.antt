@@ -6,7 +6,7 @@ use Rattle.std.specs.List.{list_any}
 use Rattle.std.specs.Str.{bytes_eq}
 use Rattle.std.proofs.lemmas.Map.Text.{is_eq-slice_cmp}
 use Rattle.fieldpath.specs.Paths.{PathTexts}
-use Rattle.pathmap.specs.Contents.{Standing, mark, Content, nothing, here, under, over}
+use Rattle.pathmap.specs.Contents.{LeafValue, mark, Content, nothing, here, under, over}
 use Rattle.pathmap.specs.Insides.{inside, heads}
 use Rattle.pathmap.proofs.Contents.{same, either, get-nothing, get-over, get-under, get-under-top, get-here-below}
 use Rattle.pathmap.proofs.Levels.{get-here-top}
@@ -14,7 +14,7 @@ use Rattle.pathmap.proofs.Trees.{ties}
 use Rattle.pathmap.proofs.Heads.{heads-inside, no_path}
 use Rattle.pathmap.proofs.Insides.{get-inside}
 
-merged : (t b : Bool) (x : Option Standing) → either (cond t x None) (cond b x None) ≡ cond (t || b) x None
+merged : (t b : Bool) (x : Option LeafValue) → either (cond t x None) (cond b x None) ≡ cond (t || b) x None
 merged true true None = refl
 merged true true (Some v) = refl
 merged true false None = refl

@@ -8,15 +8,15 @@ use Rattle.std.proofs.lemmas.Slice.Eq.{bytes_eq-Decides}
 use Rattle.serde_json.specs.Written.{compact_text}
 use Rattle.fieldpath.specs.Elements.{has_prefix, name_text, field_name}
 use Rattle.fieldpath.specs.Paths.{PathTexts}
-use Rattle.pathmap.specs.Contents.{Standing, Content, nothing, here}
-use Rattle.pathmap.specs.Contents as standing
+use Rattle.pathmap.specs.Contents.{LeafValue, Content, nothing, here}
+use Rattle.pathmap.specs.Contents as leaf_value
 use Rattle.pathmap.specs.Insides.{inside}
 use Rattle.pathmap.proofs.Contents.{get-nothing, get-here-below}
 use Rattle.schema.specs.Place.{at_end, fits, fit_keys, set_item, list_item, by_field, item_or, place_of, place_in_list, place_in_field}
 use Rattle.schema.specs.Shape.{atomic, set, keyed, Shape, text, whole, truth, struct_of, map_of, list_of, Fields, no_fields, field}
 use Rattle.schema.specs.declared.place.Place.{Place}
 use Rattle.schema.specs.declared.place.Place.TheVariants.{Leaf, SetItem}
-use Rattle.typed.specs.Placed.{IsAtomic, is_field, IsSetItem, HasKeys, IsItem, ArePlaced, HavePlaces}
+use Rattle.typed.specs.WellTyped.{IsAtomic, is_field, IsSetItem, HasKeys, IsItem, AreWellTyped, HavePlaces}
 use Rattle.typed.specs.Reading.{leaf}
 use Rattle.pathmap.proofs.Insides.{get-inside}
 use Rattle.typed.proofs.RoundTrip.{leaf_is}
@@ -25,7 +25,7 @@ pub none_there : (c : Content) (p : PathTexts) → c ≡ nothing → is_some (fi
 none_there c p none h = true≢false (sym h ∙ ap (λ d. is_some (fin.get d p)) none ∙ ap is_some (get-nothing p))
 
 -- a value at the empty path alone
-at_top : (c : Content) (v : Standing) (place : Place) → c ≡ here v → (p : PathTexts) → is_some (fin.get c p) ≡ true → is_some (at_end p place) ≡ true
+at_top : (c : Content) (v : LeafValue) (place : Place) → c ≡ here v → (p : PathTexts) → is_some (fin.get c p) ≡ true → is_some (at_end p place) ≡ true
 at_top c v place is [] h = refl
 at_top c v place is (g ∷ q) h = absurd (true≢false (sym h ∙ ap (λ d. is_some (fin.get d (g ∷ q))) is ∙ ap is_some (get-here-below v g q)))
 
@@ -33,9 +33,9 @@ at_leaf : (s : Shape) (c : Content) → IsAtomic s c → (p : PathTexts) → is_
 at_leaf s c (inl none) p h = absurd (none_there c p none h)
 at_leaf s c (inr (d, plain, reads, is)) p h = by_leaf (leaf_is d)
   where
-    by_leaf : (leaf d ≡ nothing) ⊎ (leaf d ≡ here (standing.plain (compact_text d))) → is_some (at_end p Leaf) ≡ true
+    by_leaf : (leaf d ≡ nothing) ⊎ (leaf d ≡ here (leaf_value.plain (compact_text d))) → is_some (at_end p Leaf) ≡ true
     by_leaf (inl none) = absurd (none_there c p (is ∙ none) h)
-    by_leaf (inr there) = at_top c (standing.plain (compact_text d)) Leaf (is ∙ there) p h
+    by_leaf (inr there) = at_top c (leaf_value.plain (compact_text d)) Leaf (is ∙ there) p h
 
 -- ---- fields
 
@@ -105,7 +105,7 @@ by_name s c e q h false t none below = absurd (true≢false (sym h ∙ ap is_som
 set_place : (s : Shape) (c : Content) (e : List ℕ) (q : PathTexts) → is_some (fin.get c q) ≡ true → (c ≡ nothing) ⊎ IsSetItem s e c → is_some (place_of (list_of s set) (e ∷ q)) ≡ true
 set_place s c e q h (inl none) = absurd (none_there c q none h)
 set_place s c e q h (inr (v, is, fit, there)) =
-    ap (λ r. is_some (option_and_then (λ w. cond (fits s w) (at_end q SetItem) None) (set_item r))) is ∙ ap (λ b. is_some (cond b (at_end q SetItem) None)) fit ∙ at_top c standing.mark SetItem there q h
+    ap (λ r. is_some (option_and_then (λ w. cond (fits s w) (at_end q SetItem) None) (set_item r))) is ∙ ap (λ b. is_some (cond b (at_end q SetItem) None)) fit ∙ at_top c leaf_value.mark SetItem there q h
 
 module _ (names : List (List ℕ)) (all : Fields) (c : Content) (none : (g : List ℕ) (r : PathTexts) → is_field all g ≡ false → fin.get c (g ∷ r) ≡ None)
     (bare : (f : List ℕ) → list_any (bytes_eq f) names ≡ true → inside (name_text f) c ≡ nothing) (below : FieldPlaces all c) where
@@ -135,32 +135,32 @@ top_none c h none = absurd (true≢false (sym h ∙ ap is_some none))
 mutual
   pub places : HavePlaces
   places text c (inl none) p h = absurd (none_there c p none h)
-  places text c (inr (s, is)) p h = at_top c (standing.text s) Leaf is p h
+  places text c (inr (s, is)) p h = at_top c (leaf_value.text s) Leaf is p h
   places whole c (inl none) p h = absurd (none_there c p none h)
-  places whole c (inr (n, within, is)) p h = at_top c (standing.whole n) Leaf is p h
+  places whole c (inr (n, within, is)) p h = at_top c (leaf_value.whole n) Leaf is p h
   places truth c (inl none) p h = absurd (none_there c p none h)
-  places truth c (inr (b, is)) p h = at_top c (standing.truth b) Leaf is p h
-  places (struct_of all true) c placed p h = at_leaf (struct_of all true) c placed p h
-  places (struct_of all false) c placed [] h = top_none c h placed.0.0
-  places (struct_of all false) c placed (e ∷ q) h = by_field_of all c e q h (is_field all e) refl (placed.0.1 e q) (field_places all c placed.1)
-  places (map_of s true) c placed p h = at_leaf (map_of s true) c placed p h
-  places (map_of s false) c placed [] h = top_none c h placed.0.0
-  places (map_of s false) c placed (e ∷ q) h = by_name s c e q h (has_prefix 102 e) refl (placed.0.1 e q) (λ r k. places s (inside e c) (placed.1 e) r k)
-  places (list_of s atomic) c placed p h = at_leaf (list_of s atomic) c placed p h
-  places (list_of s set) c placed [] h = top_none c h placed.0
-  places (list_of s set) c placed (e ∷ q) h = set_place s (inside e c) e q (in_place c e q h) (placed.1 e)
-  places (list_of s (keyed names)) c placed [] h = top_none c h placed.0
-  places (list_of s (keyed names)) c placed (e ∷ q) h = item_places names s (inside e c) e q (in_place c e q h) (placed.1 e)
+  places truth c (inr (b, is)) p h = at_top c (leaf_value.truth b) Leaf is p h
+  places (struct_of all true) c well_typed p h = at_leaf (struct_of all true) c well_typed p h
+  places (struct_of all false) c well_typed [] h = top_none c h well_typed.0.0
+  places (struct_of all false) c well_typed (e ∷ q) h = by_field_of all c e q h (is_field all e) refl (well_typed.0.1 e q) (field_places all c well_typed.1)
+  places (map_of s true) c well_typed p h = at_leaf (map_of s true) c well_typed p h
+  places (map_of s false) c well_typed [] h = top_none c h well_typed.0.0
+  places (map_of s false) c well_typed (e ∷ q) h = by_name s c e q h (has_prefix 102 e) refl (well_typed.0.1 e q) (λ r k. places s (inside e c) (well_typed.1 e) r k)
+  places (list_of s atomic) c well_typed p h = at_leaf (list_of s atomic) c well_typed p h
+  places (list_of s set) c well_typed [] h = top_none c h well_typed.0
+  places (list_of s set) c well_typed (e ∷ q) h = set_place s (inside e c) e q (in_place c e q h) (well_typed.1 e)
+  places (list_of s (keyed names)) c well_typed [] h = top_none c h well_typed.0
+  places (list_of s (keyed names)) c well_typed (e ∷ q) h = item_places names s (inside e c) e q (in_place c e q h) (well_typed.1 e)
 
   item_places : (names : List (List ℕ)) (s : Shape) (c : Content) (e : List ℕ) (q : PathTexts) → is_some (fin.get c q) ≡ true → (c ≡ nothing) ⊎ IsItem names s e c → is_some (place_in_list names s (e ∷ q)) ≡ true
   item_places names s c e q h (inl none) = absurd (none_there c q none h)
-  item_places names text c e q h (inr placed) = absurd placed
-  item_places names whole c e q h (inr placed) = absurd placed
-  item_places names truth c e q h (inr placed) = absurd placed
-  item_places names (map_of s b) c e q h (inr placed) = absurd placed
-  item_places names (list_of s kind) c e q h (inr placed) = absurd placed
-  item_places names (struct_of all b) c e q h (inr placed) = keys_place names all b c e q h placed.0 (field_places all c placed.1)
+  item_places names text c e q h (inr well_typed) = absurd well_typed
+  item_places names whole c e q h (inr well_typed) = absurd well_typed
+  item_places names truth c e q h (inr well_typed) = absurd well_typed
+  item_places names (map_of s b) c e q h (inr well_typed) = absurd well_typed
+  item_places names (list_of s kind) c e q h (inr well_typed) = absurd well_typed
+  item_places names (struct_of all b) c e q h (inr well_typed) = keys_place names all b c e q h well_typed.0 (field_places all c well_typed.1)
 
-  field_places : (fs : Fields) (c : Content) → ArePlaced fs c → FieldPlaces fs c
-  field_places no_fields c placed = tt
-  field_places (field f s more) c placed = ((λ q h. places s (inside (name_text f) c) placed.0 q h), field_places more c placed.1)
+  field_places : (fs : Fields) (c : Content) → AreWellTyped fs c → FieldPlaces fs c
+  field_places no_fields c well_typed = tt
+  field_places (field f s more) c well_typed = ((λ q h. places s (inside (name_text f) c) well_typed.0 q h), field_places more c well_typed.1)

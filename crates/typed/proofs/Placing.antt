@@ -19,10 +19,10 @@ use Rattle.fieldpath.specs.Elements.{Scalar, KeyFields, has_prefix, key_members,
 use Rattle.fieldpath.specs.Elements as element
 use Rattle.fieldpath.specs.Paths.{PathTexts}
 use Rattle.fieldpath.specs.Scalars.{ascend, ascend_from}
-use Rattle.fieldpath.specs.Spelled.{IsSpelledNumber, IsSpelled, AreSpelled, MembersAreSpelled, member_names}
-use Rattle.fieldpath.proofs.Spelled.{compact-read}
+use Rattle.fieldpath.specs.Encodable.{IsEncodableNumber, IsEncodable, AreEncodable, MembersAreEncodable, member_names}
+use Rattle.fieldpath.proofs.Encodable.{compact-read}
 use Rattle.pathmap.specs.Contents.{Content, nothing, here, under, over}
-use Rattle.pathmap.specs.Contents as standing
+use Rattle.pathmap.specs.Contents as leaf_value
 use Rattle.pathmap.specs.Insides.{inside}
 use Rattle.pathmap.proofs.Contents.{same, either, get-nothing, get-over, get-under-top, get-here-below, nothing-over, over-nothing}
 use Rattle.pathmap.proofs.Levels.{get-here-top}
@@ -32,7 +32,7 @@ use Rattle.schema.specs.Place.{fits, fits_some, fit_keys}
 use Rattle.schema.specs.Shape.{atomic, set, keyed, Shape, text, whole, truth, struct_of, map_of, list_of, Fields, no_fields, field, shape_at}
 use Rattle.typed.specs.declared.fault.Cause.TheVariants.{NotAnObject, WrongType, DuplicateItem, KeyFieldMissing}
 use Rattle.typed.specs.Faults.{Read, below, and_then, some_or, shown_name, shown_place}
-use Rattle.typed.specs.Placed.{IsWithin, IsAtomic, is_field, IsSetItem, HasKeys, IsItem, IsPlaced, ArePlaced, ReadingsArePlaced}
+use Rattle.typed.specs.WellTyped.{IsWithin, IsAtomic, is_field, IsSetItem, HasKeys, IsItem, IsWellTyped, AreWellTyped, ReadingsAreWellTyped}
 use Rattle.typed.specs.Reading.{is_null, is_there, text_in, whole_in, truth_in, have_keys, put_some, keys_in, plain_of, leaf, at_field, joined, one_member, members_at, marked, one_item, items_at, named_item, set_item, keyed_item, beside_keys, content_of, content_of_item, content_of_field}
 use Rattle.typed.proofs.ElementTexts.{scalar_same}
 use Rattle.typed.proofs.Floats.{ok_is, err_not_ok, below_ok, and_then_ok, named_is, plain_clean, content_item_clean, keys_clean}
@@ -45,10 +45,10 @@ use Rattle.typed.proofs.RoundTrip.{AllFound, all_found, one_so, other_so}
 
 -- ---- what stands inside an element
 
-inside-marked : (g : List ℕ) (c : Content) → inside g (over (here standing.mark) c) ≡ inside g c
+inside-marked : (g : List ℕ) (c : Content) → inside g (over (here leaf_value.mark) c) ≡ inside g c
 inside-marked g c =
-    same (inside g (over (here standing.mark) c)) (inside g c) (λ q.
-    get-inside g (over (here standing.mark) c) q ∙ get-over (here standing.mark) c (g ∷ q) ∙ ap (λ o. either o (fin.get c (g ∷ q))) (get-here-below standing.mark g q) ∙ sym (get-inside g c q))
+    same (inside g (over (here leaf_value.mark) c)) (inside g c) (λ q.
+    get-inside g (over (here leaf_value.mark) c) q ∙ get-over (here leaf_value.mark) c (g ∷ q) ∙ ap (λ o. either o (fin.get c (g ∷ q))) (get-here-below leaf_value.mark g q) ∙ sym (get-inside g c q))
 
 inside_apart : (e k : List ℕ) (a : Content) → StandsBelow k a → bytes_eq e k ≡ false → inside e a ≡ nothing
 inside_apart e k a stands apart = same (inside e a) nothing (λ q. get-inside e a q ∙ stands.1 e q (is_eq-slice_cmp e k ∙ apart) ∙ sym (get-nothing q))
@@ -66,7 +66,7 @@ either_none a b p q = ap₂ either p q
 -- ---- members
 
 abbrev Good : Data → Type 0
-Good d = IsSpelled d × (depth d ≤ max_depth)
+Good d = IsEncodable d × (depth d ≤ max_depth)
 
 not_in : (k : List ℕ) (ks : List (List ℕ)) → ascend_from k ks ≡ true → list_any (bytes_eq k) ks ≡ false
 not_in k [] up = refl
@@ -120,14 +120,14 @@ module _ (inner : List ℕ → Data → Read Content) where
   by_element e k d a b c false t is good none stands one later =
       subst (NoneOr e) (sym (ap (inside e) (sym is) ∙ inside-over e a b ∙ ap (λ x. over x (inside e b)) (inside_apart e (name_text k) a stands t) ∙ nothing-over (inside e b))) later
 
-  members_each : (ms : Members) (c : Content) → members_at inner ms ≡ Ok c → ascend (member_names ms) ≡ true → MembersAreSpelled ms → members_depth ms ≤ max_depth → (e : List ℕ) → NoneOr e (inside e c)
-  members_each no_members c h up spelled shallow e = inl (ap (inside e) (sym (same_ok nothing c h)) ∙ inside-nothing e)
-  members_each (member k d ms) c h up spelled shallow e =
+  members_each : (ms : Members) (c : Content) → members_at inner ms ≡ Ok c → ascend (member_names ms) ≡ true → MembersAreEncodable ms → members_depth ms ≤ max_depth → (e : List ℕ) → NoneOr e (inside e c)
+  members_each no_members c h up encodable shallow e = inl (ap (inside e) (sym (same_ok nothing c h)) ∙ inside-nothing e)
+  members_each (member k d ms) c h up encodable shallow e =
       let p = split (one_member inner k d) (members_at inner ms) c h in
       let first : depth d ≤ max_depth = omega (arith, shallow) in
       let others : members_depth ms ≤ max_depth = omega (arith, shallow) in
-      by_element e k d p.0 p.1 c (bytes_eq e (name_text k)) refl p.4 (spelled.0, first) (absent k ms p.1 (not_in k (member_names ms) up) p.3) (one_stands inner k d p.0 p.2)
-      (one_inside k d p.0 (is_null d) p.2) (members_each ms p.1 p.3 (ascend_rest k (member_names ms) up) spelled.1 others e)
+      by_element e k d p.0 p.1 c (bytes_eq e (name_text k)) refl p.4 (encodable.0, first) (absent k ms p.1 (not_in k (member_names ms) up) p.3) (one_stands inner k d p.0 p.2)
+      (one_inside k d p.0 (is_null d) p.2) (members_each ms p.1 p.3 (ascend_rest k (member_names ms) up) encodable.1 others e)
 
   -- the member that is found at a name was read
   abbrev WasRead : List ℕ → Data → Type 0
@@ -149,40 +149,40 @@ module _ (inner : List ℕ → Data → Read Content) where
       some_is : Some e ≡ Some d → e ≡ d
       some_is h = ap or_this h
 
-  member_read : (n : List ℕ) (d : Data) (ms : Members) (c : Content) → get_member n ms ≡ Some d → is_null d ≡ false → members_at inner ms ≡ Ok c → MembersAreSpelled ms → members_depth ms ≤ max_depth → WasRead n d
-  member_read n d no_members c found full h spelled shallow = absurd (true≢false (sym (ap is_some found)))
-  member_read n d (member k e ms) c found full h spelled shallow =
+  member_read : (n : List ℕ) (d : Data) (ms : Members) (c : Content) → get_member n ms ≡ Some d → is_null d ≡ false → members_at inner ms ≡ Ok c → MembersAreEncodable ms → members_depth ms ≤ max_depth → WasRead n d
+  member_read n d no_members c found full h encodable shallow = absurd (true≢false (sym (ap is_some found)))
+  member_read n d (member k e ms) c found full h encodable shallow =
       let p = split (one_member inner k e) (members_at inner ms) c h in
       let first : depth e ≤ max_depth = omega (arith, shallow) in
       let others : members_depth ms ≤ max_depth = omega (arith, shallow) in
-      read_at (slice_cmp nat_cmp n k) n k d e p.0 (get_member n ms) refl found full (spelled.0, first) p.2 (λ rest. member_read n d ms p.1 rest full p.3 spelled.1 others)
+      read_at (slice_cmp nat_cmp n k) n k d e p.0 (get_member n ms) refl found full (encodable.0, first) p.2 (λ rest. member_read n d ms p.1 rest full p.3 encodable.1 others)
 
 -- ---- where nothing stands
 
 mutual
-  pub nothing_placed : (s : Shape) → IsPlaced s nothing
-  nothing_placed text = inl refl
-  nothing_placed whole = inl refl
-  nothing_placed truth = inl refl
-  nothing_placed (struct_of all true) = inl refl
-  nothing_placed (struct_of all false) = ((get-nothing [], λ e q h. get-nothing (e ∷ q)), nothing_below all)
-  nothing_placed (map_of s true) = inl refl
-  nothing_placed (map_of s false) = ((get-nothing [], λ e q h. get-nothing (e ∷ q)), λ e. subst (IsPlaced s) (sym (inside-nothing e)) (nothing_placed s))
-  nothing_placed (list_of s atomic) = inl refl
-  nothing_placed (list_of s set) = (get-nothing [], λ e. inl (inside-nothing e))
-  nothing_placed (list_of s (keyed names)) = (get-nothing [], λ e. inl (inside-nothing e))
+  pub nothing_well_typed : (s : Shape) → IsWellTyped s nothing
+  nothing_well_typed text = inl refl
+  nothing_well_typed whole = inl refl
+  nothing_well_typed truth = inl refl
+  nothing_well_typed (struct_of all true) = inl refl
+  nothing_well_typed (struct_of all false) = ((get-nothing [], λ e q h. get-nothing (e ∷ q)), nothing_below all)
+  nothing_well_typed (map_of s true) = inl refl
+  nothing_well_typed (map_of s false) = ((get-nothing [], λ e q h. get-nothing (e ∷ q)), λ e. subst (IsWellTyped s) (sym (inside-nothing e)) (nothing_well_typed s))
+  nothing_well_typed (list_of s atomic) = inl refl
+  nothing_well_typed (list_of s set) = (get-nothing [], λ e. inl (inside-nothing e))
+  nothing_well_typed (list_of s (keyed names)) = (get-nothing [], λ e. inl (inside-nothing e))
 
-  nothing_below : (all : Fields) → ArePlaced all nothing
+  nothing_below : (all : Fields) → AreWellTyped all nothing
   nothing_below no_fields = tt
-  nothing_below (field f s more) = (subst (IsPlaced s) (sym (inside-nothing (name_text f))) (nothing_placed s), nothing_below more)
+  nothing_below (field f s more) = (subst (IsWellTyped s) (sym (inside-nothing (name_text f))) (nothing_well_typed s), nothing_below more)
 
 -- ---- scalars
 
-text_placed : (d : Data) (c : Content) → content_of text d ≡ Ok c → IsPlaced text c
-text_placed d c h = let k = below_ok [] (λ s. here (standing.text s)) (text_in d) c h in inr (k.0, k.2)
+text_well_typed : (d : Data) (c : Content) → content_of text d ≡ Ok c → IsWellTyped text c
+text_well_typed d c h = let k = below_ok [] (λ s. here (leaf_value.text s)) (text_in d) c h in inr (k.0, k.2)
 
-truth_placed : (d : Data) (c : Content) → content_of truth d ≡ Ok c → IsPlaced truth c
-truth_placed d c h = let k = below_ok [] (λ b. here (standing.truth b)) (truth_in d) c h in inr (k.0, k.2)
+truth_well_typed : (d : Data) (c : Content) → content_of truth d ≡ Ok c → IsWellTyped truth c
+truth_well_typed d c h = let k = below_ok [] (λ b. here (leaf_value.truth b)) (truth_in d) c h in inr (k.0, k.2)
 
 abbrev some_of : {X : Type 0} → X → Option X → X
 some_of d None = d
@@ -198,7 +198,7 @@ within_by : (b : Bool) (m : ℕ) (n : ℤ) → nat_lt m (2 ^ 63) ≡ b → cond 
 within_by true m n is h = subst IsWithin (same_some (pos m) n h) (below_of m (2 ^ 63) is)
 within_by false m n is h = absurd (true≢false (sym (ap is_some h)))
 
-whole_within : (x : Num) (n : ℤ) → IsSpelledNumber x → as_i64 x ≡ Some n → IsWithin n
+whole_within : (x : Num) (n : ℤ) → IsEncodableNumber x → as_i64 x ≡ Some n → IsWithin n
 whole_within (unsigned m) n fit h = within_by (nat_lt m (2 ^ 63)) m n refl h
 whole_within (negative (pos m)) n fit h = absurd fit
 whole_within (negative (negsuc m)) n fit h = subst IsWithin (same_some (negsuc m) n h) fit
@@ -208,16 +208,16 @@ was_some : {X : Type 0} (o : Option X) (x : X) → some_or WrongType o ≡ Ok x 
 was_some None x h = absurd (err_not_ok _ x h)
 was_some (Some y) x h = ap Some (ok_is y x h)
 
-whole_found : (d : Data) (n : ℤ) → IsSpelled d → option_and_then as_i64 (as_number d) ≡ Some n → IsWithin n
-whole_found null n spelled h = absurd (true≢false (sym (ap is_some h)))
-whole_found (boolean b) n spelled h = absurd (true≢false (sym (ap is_some h)))
-whole_found (number x) n spelled h = whole_within x n spelled h
-whole_found (string s) n spelled h = absurd (true≢false (sym (ap is_some h)))
-whole_found (array ds) n spelled h = absurd (true≢false (sym (ap is_some h)))
-whole_found (object ms) n spelled h = absurd (true≢false (sym (ap is_some h)))
+whole_found : (d : Data) (n : ℤ) → IsEncodable d → option_and_then as_i64 (as_number d) ≡ Some n → IsWithin n
+whole_found null n encodable h = absurd (true≢false (sym (ap is_some h)))
+whole_found (boolean b) n encodable h = absurd (true≢false (sym (ap is_some h)))
+whole_found (number x) n encodable h = whole_within x n encodable h
+whole_found (string s) n encodable h = absurd (true≢false (sym (ap is_some h)))
+whole_found (array ds) n encodable h = absurd (true≢false (sym (ap is_some h)))
+whole_found (object ms) n encodable h = absurd (true≢false (sym (ap is_some h)))
 
-whole_placed : (d : Data) (c : Content) → IsSpelled d → content_of whole d ≡ Ok c → IsPlaced whole c
-whole_placed d c spelled h = let k = below_ok [] (λ n. here (standing.whole n)) (whole_in d) c h in inr (k.0, whole_found d k.0 spelled (was_some (option_and_then as_i64 (as_number d)) k.0 k.1), k.2)
+whole_well_typed : (d : Data) (c : Content) → IsEncodable d → content_of whole d ≡ Ok c → IsWellTyped whole c
+whole_well_typed d c encodable h = let k = below_ok [] (λ n. here (leaf_value.whole n)) (whole_in d) c h in inr (k.0, whole_found d k.0 encodable (was_some (option_and_then as_i64 (as_number d)) k.0 k.1), k.2)
 
 -- what is read where a scalar is due is one, of the type due
 abbrev IsScalar : Shape → Data → Type 0
@@ -248,9 +248,9 @@ truth_scalar (array ds) b h = absurd (err_not_ok _ b h)
 truth_scalar (object ms) b h = absurd (err_not_ok _ b h)
 
 content_scalar : (s : Shape) (d : Data) (c : Content) → is_scalar s ≡ true → content_of s d ≡ Ok c → IsScalar s d
-content_scalar text d c is h = let k = below_ok [] (λ x. here (standing.text x)) (text_in d) c h in text_scalar d k.0 k.1
-content_scalar whole d c is h = let k = below_ok [] (λ x. here (standing.whole x)) (whole_in d) c h in whole_scalar_is d k.0 k.1
-content_scalar truth d c is h = let k = below_ok [] (λ x. here (standing.truth x)) (truth_in d) c h in truth_scalar d k.0 k.1
+content_scalar text d c is h = let k = below_ok [] (λ x. here (leaf_value.text x)) (text_in d) c h in text_scalar d k.0 k.1
+content_scalar whole d c is h = let k = below_ok [] (λ x. here (leaf_value.whole x)) (whole_in d) c h in whole_scalar_is d k.0 k.1
+content_scalar truth d c is h = let k = below_ok [] (λ x. here (leaf_value.truth x)) (truth_in d) c h in truth_scalar d k.0 k.1
 content_scalar (struct_of all b) d c is h = absurd (true≢false (sym is))
 content_scalar (map_of s b) d c is h = absurd (true≢false (sym is))
 content_scalar (list_of s kind) d c is h = absurd (true≢false (sym is))
@@ -269,8 +269,8 @@ plain_scalar (list_of s kind) d x is h = absurd (true≢false (sym is))
 
 -- ---- atomic values
 
-atomic_placed : (s : Shape) (d : Data) (c : Content) → Good d → below [] leaf (plain_of s d) ≡ Ok c → IsAtomic s c
-atomic_placed s d c good h =
+atomic_well_typed : (s : Shape) (d : Data) (c : Content) → Good d → below [] leaf (plain_of s d) ≡ Ok c → IsAtomic s c
+atomic_well_typed s d c good h =
     let k = below_ok [] leaf (plain_of s d) c h in
     let x = k.0 in
     let kept = plain_leaf s d x k.1 good.0 in
@@ -281,7 +281,7 @@ atomic_placed s d c good h =
 -- ---- the fields of a struct
 
 abbrev Places : Shape → Type 0
-Places s = (d : Data) (c : Content) → Good d → content_of s d ≡ Ok c → IsPlaced s c
+Places s = (d : Data) (c : Content) → Good d → content_of s d ≡ Ok c → IsWellTyped s c
 
 abbrev AllPlace : Fields → Type 0
 AllPlace no_fields = Unit {0}
@@ -290,13 +290,13 @@ AllPlace (field f s more) = Places s × AllPlace more
 abbrev FieldAt : Fields → List ℕ → Content → Type 0
 FieldAt all f x = (x ≡ nothing) ⊎ ((d : Data) × Good d × (content_of_field all f d ≡ Ok x))
 
-one_placed : (all : Fields) (f : List ℕ) (s : Shape) (x : Content) → Places s → ((d : Data) → content_of_field all f d ≡ content_of s d) → FieldAt all f x → IsPlaced s x
-one_placed all f s x place found (inl none) = subst (IsPlaced s) (sym none) (nothing_placed s)
-one_placed all f s x place found (inr (d, good, reads)) = place d x good (sym (found d) ∙ reads)
+one_well_typed : (all : Fields) (f : List ℕ) (s : Shape) (x : Content) → Places s → ((d : Data) → content_of_field all f d ≡ content_of s d) → FieldAt all f x → IsWellTyped s x
+one_well_typed all f s x place found (inl none) = subst (IsWellTyped s) (sym none) (nothing_well_typed s)
+one_well_typed all f s x place found (inr (d, good, reads)) = place d x good (sym (found d) ∙ reads)
 
-fields_placed : (all fs : Fields) (c : Content) → AllFound all fs → AllPlace fs → ((f : List ℕ) → FieldAt all f (inside (name_text f) c)) → ArePlaced fs c
-fields_placed all no_fields c found place each = tt
-fields_placed all (field f s more) c found place each = (one_placed all f s (inside (name_text f) c) place.0 found.0 (each f), fields_placed all more c found.1 place.1 each)
+fields_well_typed : (all fs : Fields) (c : Content) → AllFound all fs → AllPlace fs → ((f : List ℕ) → FieldAt all f (inside (name_text f) c)) → AreWellTyped fs c
+fields_well_typed all no_fields c found place each = tt
+fields_well_typed all (field f s more) c found place each = (one_well_typed all f s (inside (name_text f) c) place.0 found.0 (each f), fields_well_typed all more c found.1 place.1 each)
 
 field_known : (all : Fields) (k : List ℕ) (d : Data) (x : Content) → content_of_field all k d ≡ Ok x → is_field all (name_text k) ≡ true
 field_known no_fields k d x h = absurd (err_not_ok _ x h)
@@ -319,13 +319,13 @@ struct_none : (all : Fields) (e : List ℕ) (q : PathTexts) (c : Content) → is
 struct_none all e q c apart (inl none) = bare_below e q c none
 struct_none all e q c apart (inr (k, d, good, is, reads)) = absurd (true≢false (sym (ap (is_field all) is ∙ field_known all k d (inside e c) reads) ∙ apart))
 
-struct_placed : (all : Fields) (ms : Members) (c : Content) → ascend (names_of all) ≡ true → AllPlace all → Good (object ms) → members_at (λ k e. content_of_field all k e) ms ≡ Ok c → IsPlaced (struct_of all false) c
-struct_placed all ms c rise place good h =
+struct_well_typed : (all : Fields) (ms : Members) (c : Content) → ascend (names_of all) ≡ true → AllPlace all → Good (object ms) → members_at (λ k e. content_of_field all k e) ms ≡ Ok c → IsWellTyped (struct_of all false) c
+struct_well_typed all ms c rise place good h =
     let inner : List ℕ → Data → Read Content = λ k e. content_of_field all k e in
     let deep : depth (object ms) ≤ max_depth = good.1 in
     let each = members_each inner ms c h good.0.0 good.0.1 (omega (arith, deep)) in (
       (members_top inner ms c h, λ e q apart. struct_none all e q c apart (each e)),
-      fields_placed all all c (all_found all all (ascend_rising (names_of all) rise) (λ k d t. refl)) place (λ f. struct_each all f (inside (name_text f) c) (each (name_text f))),
+      fields_well_typed all all c (all_found all all (ascend_rising (names_of all) rise) (λ k d t. refl)) place (λ f. struct_each all f (inside (name_text f) c) (each (name_text f))),
     )
 
 pub prefix_of_name : (k : List ℕ) → has_prefix 102 (name_text k) ≡ true
@@ -336,12 +336,12 @@ map_none : (s : Shape) (e : List ℕ) (q : PathTexts) (c : Content) → has_pref
 map_none s e q c apart (inl none) = bare_below e q c none
 map_none s e q c apart (inr (k, d, good, is, reads)) = absurd (true≢false (sym (ap (has_prefix 102) is ∙ prefix_of_name k) ∙ apart))
 
-map_each : (s : Shape) (e : List ℕ) (x : Content) → Places s → NoneOr (λ k e. content_of s e) e x → IsPlaced s x
-map_each s e x place (inl none) = subst (IsPlaced s) (sym none) (nothing_placed s)
+map_each : (s : Shape) (e : List ℕ) (x : Content) → Places s → NoneOr (λ k e. content_of s e) e x → IsWellTyped s x
+map_each s e x place (inl none) = subst (IsWellTyped s) (sym none) (nothing_well_typed s)
 map_each s e x place (inr (k, d, good, is, reads)) = place d x good reads
 
-map_placed : (s : Shape) (ms : Members) (c : Content) → Places s → Good (object ms) → members_at (λ k e. content_of s e) ms ≡ Ok c → IsPlaced (map_of s false) c
-map_placed s ms c place good h =
+map_well_typed : (s : Shape) (ms : Members) (c : Content) → Places s → Good (object ms) → members_at (λ k e. content_of s e) ms ≡ Ok c → IsWellTyped (map_of s false) c
+map_well_typed s ms c place good h =
     let inner : List ℕ → Data → Read Content = λ k e. content_of s e in
     let deep : depth (object ms) ≤ max_depth = good.1 in
     let each = members_each inner ms c h good.0.0 good.0.1 (omega (arith, deep)) in
@@ -351,7 +351,7 @@ map_placed s ms c place good h =
 
 module _ (inner : Data → Read (List ℕ × Content)) where
   abbrev ItemAt : List ℕ → Content → Type 0
-  ItemAt e x = (d : Data) × (y : Content) × Good d × (inner d ≡ Ok (e, y)) × (x ≡ over (here standing.mark) y)
+  ItemAt e x = (d : Data) × (y : Content) × Good d × (inner d ≡ Ok (e, y)) × (x ≡ over (here leaf_value.mark) y)
 
   abbrev Split : ℕ → List (List ℕ) → Data → Items → Content → Type 0
   Split i seen d ds c =
@@ -375,7 +375,7 @@ module _ (inner : Data → Read (List ℕ × Content)) where
   items_top i seen (item d ds) c h =
       let p = split_item i seen d ds c h in
       ap (λ x. fin.get x []) (sym p.5) ∙ get-over (marked p.0.0 p.0.1) p.3 []
-      ∙ either_none (fin.get (marked p.0.0 p.0.1) []) (fin.get p.3 []) (get-under-top p.0.0 (over (here standing.mark) p.0.1)) (items_top (suc i) (p.0.0 ∷ seen) ds p.3 p.4)
+      ∙ either_none (fin.get (marked p.0.0 p.0.1) []) (fin.get p.3 []) (get-under-top p.0.0 (over (here leaf_value.mark) p.0.1)) (items_top (suc i) (p.0.0 ∷ seen) ds p.3 p.4)
 
   apart_from : (e f : List ℕ) (seen : List (List ℕ)) → list_any (bytes_eq e) seen ≡ true → list_any (bytes_eq f) seen ≡ false → bytes_eq e f ≡ false
   apart_from e f seen there fresh = by_test (bytes_eq e f) refl
@@ -386,7 +386,7 @@ module _ (inner : Data → Read (List ℕ × Content)) where
 
   skip_item : (e : List ℕ) (f : List ℕ × Content) (b c : Content) → bytes_eq e f.0 ≡ false → over (marked f.0 f.1) b ≡ c → inside e c ≡ inside e b
   skip_item e f b c apart is =
-      ap (inside e) (sym is) ∙ inside-over e (marked f.0 f.1) b ∙ ap (λ x. over x (inside e b)) (inside-under e f.0 (over (here standing.mark) f.1) false apart) ∙ nothing-over (inside e b)
+      ap (inside e) (sym is) ∙ inside-over e (marked f.0 f.1) b ∙ ap (λ x. over x (inside e b)) (inside-under e f.0 (over (here leaf_value.mark) f.1) false apart) ∙ nothing-over (inside e b)
 
   -- nothing stands inside the element of an earlier item
   items_seen : (i : ℕ) (seen : List (List ℕ)) (ds : Items) (c : Content) → items_at inner i seen ds ≡ Ok c → (e : List ℕ) → list_any (bytes_eq e) seen ≡ true → inside e c ≡ nothing
@@ -402,21 +402,21 @@ module _ (inner : Data → Read (List ℕ × Content)) where
       → NoneOrItem e (inside e b) → NoneOrItem e (inside e c)
   by_item_element e f d b c true t good read bare is later =
       let named : e ≡ f.0 = (bytes_eq-Decides e f.0).0 t in
-      let stands : inside e c ≡ over (here standing.mark) f.1 =
+      let stands : inside e c ≡ over (here leaf_value.mark) f.1 =
       ap (λ g. inside g c) named ∙ ap (inside f.0) (sym is) ∙ inside-over f.0 (marked f.0 f.1) b
-      ∙ ap₂ over (inside-under f.0 f.0 (over (here standing.mark) f.1) true (itself f.0)) bare ∙ over-nothing (over (here standing.mark) f.1) in
+      ∙ ap₂ over (inside-under f.0 f.0 (over (here leaf_value.mark) f.1) true (itself f.0)) bare ∙ over-nothing (over (here leaf_value.mark) f.1) in
       inr (d, f.1, good, read ∙ ap (λ g. Ok (g, f.1)) (sym named), stands)
   by_item_element e f d b c false t good read bare is later = subst (NoneOrItem e) (sym (skip_item e f b c t is)) later
 
-  items_each : (i : ℕ) (seen : List (List ℕ)) (ds : Items) (c : Content) → items_at inner i seen ds ≡ Ok c → AreSpelled ds → items_depth ds ≤ max_depth → (e : List ℕ) → NoneOrItem e (inside e c)
-  items_each i seen no_items c h spelled shallow e = inl (ap (inside e) (sym (same_ok nothing c h)) ∙ inside-nothing e)
-  items_each i seen (item d ds) c h spelled shallow e =
+  items_each : (i : ℕ) (seen : List (List ℕ)) (ds : Items) (c : Content) → items_at inner i seen ds ≡ Ok c → AreEncodable ds → items_depth ds ≤ max_depth → (e : List ℕ) → NoneOrItem e (inside e c)
+  items_each i seen no_items c h encodable shallow e = inl (ap (inside e) (sym (same_ok nothing c h)) ∙ inside-nothing e)
+  items_each i seen (item d ds) c h encodable shallow e =
       let p = split_item i seen d ds c h in
       let first : depth d ≤ max_depth = omega (arith, shallow) in
       let others : items_depth ds ≤ max_depth = omega (arith, shallow) in
-      by_item_element e p.0 d p.3 c (bytes_eq e p.0.0) refl (spelled.0, first) p.1
+      by_item_element e p.0 d p.3 c (bytes_eq e p.0.0) refl (encodable.0, first) p.1
       (items_seen (suc i) (p.0.0 ∷ seen) ds p.3 p.4 p.0.0 (one_so (bytes_eq p.0.0 p.0.0) (list_any (bytes_eq p.0.0) seen) (itself p.0.0))) p.5
-      (items_each (suc i) (p.0.0 ∷ seen) ds p.3 p.4 spelled.1 others e)
+      (items_each (suc i) (p.0.0 ∷ seen) ds p.3 p.4 encodable.1 others e)
 
 -- ---- sets
 
@@ -444,10 +444,10 @@ set_each s e x is (inr (d, y, good, reads, stands)) =
     let good_z : Good z = subst Good (sym one.0) good in
     let back = compact-read z good_z.0 clean good_z.1 in
     let named = named_is (set_item_text z) (scalar_text z) nothing (pair e y) (ap (option_map (λ w. scalar_text z)) scalar) k.2 in
-    inr (v, ap read_element (ap pair_text named) ∙ scalar_read z v back scalar, one.1.2, stands ∙ ap (λ p. over (here standing.mark) p.1) named ∙ over-nothing (here standing.mark))
+    inr (v, ap read_element (ap pair_text named) ∙ scalar_read z v back scalar, one.1.2, stands ∙ ap (λ p. over (here leaf_value.mark) p.1) named ∙ over-nothing (here leaf_value.mark))
 
-set_placed : (s : Shape) (ds : Items) (c : Content) → is_scalar s ≡ true → Good (array ds) → items_at (set_item (plain_of s)) 0 [] ds ≡ Ok c → IsPlaced (list_of s set) c
-set_placed s ds c is good h =
+set_well_typed : (s : Shape) (ds : Items) (c : Content) → is_scalar s ≡ true → Good (array ds) → items_at (set_item (plain_of s)) 0 [] ds ≡ Ok c → IsWellTyped (list_of s set) c
+set_well_typed s ds c is good h =
     let deep : depth (array ds) ≤ max_depth = good.1 in
     (items_top (set_item (plain_of s)) 0 [] ds c h, λ e. set_each s e (inside e c) is (items_each (set_item (plain_of s)) 0 [] ds c h good.0 (omega (arith, deep)) e))
 
@@ -458,11 +458,11 @@ record KeysRead (ns : List (List ℕ)) (all : Fields) (ms : Members) : Type 0 wh
   pub are : keys_of_members (keys_in ns ms) ≡ Some keys
   pub fit : fit_keys ns all keys ≡ true
   pub named : member_names (keys_in ns ms) ≡ ns
-  pub spelled : MembersAreSpelled (keys_in ns ms)
+  pub encodable : MembersAreEncodable (keys_in ns ms)
   pub flat : members_depth (keys_in ns ms) ≤ 0
 
 abbrev KeyIs : Fields → Members → List ℕ → Type 0
-KeyIs all ms n = (d : Data) × (v : Scalar) × (get_member n ms ≡ Some d) × (scalar_of d ≡ Some v) × (fits_some (shape_at n all) v ≡ true) × IsSpelled d
+KeyIs all ms n = (d : Data) × (v : Scalar) × (get_member n ms ≡ Some d) × (scalar_of d ≡ Some v) × (fits_some (shape_at n all) v ≡ true) × IsEncodable d
 
 flat_scalar : (d : Data) (v : Scalar) → scalar_of d ≡ Some v → depth d ≤ 0
 flat_scalar null v h = omega arith
@@ -479,7 +479,7 @@ put_before n d (member k e ms) (m ∷ ns) named above =
     let first : k ≡ m = cc in ap (λ o. match_ordering o (member n d (member k e ms)) (member k d ms) (member k e (put n d ms))) (ap (slice_cmp nat_cmp n) first ∙ above.0)
 
 keys_more : (n : List ℕ) (ns : List (List ℕ)) (all : Fields) (ms : Members) → AllByRecursion (λ m. slice_cmp nat_cmp n m ≡ Less) ns → KeyIs all ms n → KeysRead ns all ms → KeysRead (n ∷ ns) all ms
-keys_more n ns all ms above (d, v, found, scalar, fit, spelled) rest =
+keys_more n ns all ms above (d, v, found, scalar, fit, encodable) rest =
     let same_keys : keys_in (n ∷ ns) ms ≡ member n d (keys_in ns ms) = ap (λ o. put_some n o (keys_in ns ms)) found ∙ put_before n d (keys_in ns ms) ns rest.named above in
     let flat : members_depth (member n d (keys_in ns ms)) ≤ 0 = omega (arith, flat_scalar d v scalar, rest.flat) in
     record {
@@ -487,12 +487,12 @@ keys_more n ns all ms above (d, v, found, scalar, fit, spelled) rest =
       are = ap keys_of_members same_keys ∙ ap₂ (one_more n) scalar rest.are;
       fit = both_true (both_true (itself n) fit) rest.fit;
       named = ap member_names same_keys ∙ ap (λ ks. n ∷ ks) rest.named;
-      spelled = subst MembersAreSpelled (sym same_keys) (spelled, rest.spelled);
+      encodable = subst MembersAreEncodable (sym same_keys) (encodable, rest.encodable);
       flat = subst (λ m. members_depth m ≤ 0) (sym same_keys) flat;
     }
 
 keys_are : (ns : List (List ℕ)) (all : Fields) (ms : Members) → AreRising ns → ((n : List ℕ) → list_any (bytes_eq n) ns ≡ true → KeyIs all ms n) → KeysRead ns all ms
-keys_are [] all ms rise each = record { keys = []; are = refl; fit = refl; named = refl; spelled = tt; flat = omega arith }
+keys_are [] all ms rise each = record { keys = []; are = refl; fit = refl; named = refl; encodable = tt; flat = omega arith }
 keys_are (n ∷ ns) all ms rise each =
     keys_more n ns all ms rise.0 (each n (one_so (bytes_eq n n) (list_any (bytes_eq n) ns) (itself n))) (keys_are ns all ms rise.1 (λ m t. each m (other_so (bytes_eq m n) (list_any (bytes_eq m) ns) t)))
 
@@ -538,12 +538,12 @@ module _ (names : List (List ℕ)) (all : Fields) where
   key_content k d x (inl h) = h.2
   key_content k d x (inr h) = (x, h.1)
 
-  key_is : (ms : Members) (c : Content) → list_all (λ n. is_some_scalar (shape_at n all)) names ≡ true → have_keys names ms ≡ true → members_at item_members ms ≡ Ok c → MembersAreSpelled ms → members_depth ms ≤ max_depth
+  key_is : (ms : Members) (c : Content) → list_all (λ n. is_some_scalar (shape_at n all)) names ≡ true → have_keys names ms ≡ true → members_at item_members ms ≡ Ok c → MembersAreEncodable ms → members_depth ms ≤ max_depth
       → (n : List ℕ) → list_any (bytes_eq n) names ≡ true → KeyIs all ms n
-  key_is ms c scalars keys h spelled shallow n named =
+  key_is ms c scalars keys h encodable shallow n named =
       let there = key_there (get_member n ms) (all_at (λ k. is_there (get_member k ms)) names n (keys_all names ms keys) named) in
       let d = there.0 in
-      let was = member_read item_members n d ms c there.1 there.2 h spelled shallow in
+      let was = member_read item_members n d ms c there.1 there.2 h encodable shallow in
       let content = key_content n d was.0 (of_field n d was.0 was.2) in
       let typed = scalar_there (shape_at n all) (all_at (λ k. is_some_scalar (shape_at k all)) names n scalars named) in
       let one = content_scalar typed.0 d content.0 typed.2 (sym (field-at all n d typed.0 typed.1) ∙ content.1) in
@@ -586,10 +586,10 @@ key_read ms ks reads are some same_text =
 
 module _ (names : List (List ℕ)) (all : Fields) (some : is_some_name names ≡ true) (rise : ascend names ≡ true) (scalars : list_all (λ n. is_some_scalar (shape_at n all)) names ≡ true) (fields_rise : ascend (names_of all) ≡ true) (place : AllPlace all) where
   abbrev IsKeyed : List ℕ → Content → Type 0
-  IsKeyed e x = HasKeys names all e x × ArePlaced all x
+  IsKeyed e x = HasKeys names all e x × AreWellTyped all x
 
   item_of : (ms : Members) (y : Content) → Good (object ms) → have_keys names ms ≡ true → members_at (item_members names all) ms ≡ Ok y → members_have_float ms ≡ false
-      → IsKeyed (key_text (keys_in names ms)) (over (here standing.mark) y)
+      → IsKeyed (key_text (keys_in names ms)) (over (here leaf_value.mark) y)
   item_of ms y good keys h clean =
       let deep : depth (object ms) ≤ max_depth = good.1 in
       let shallow : members_depth ms ≤ max_depth = omega (arith, deep) in
@@ -597,10 +597,10 @@ module _ (names : List (List ℕ)) (all : Fields) (some : is_some_name names ≡
       let ks = keys_are names all ms (ascend_rising names rise) (key_is names all ms y scalars keys h good.0.1 shallow) in
       let up : ascend (member_names (keys_in names ms)) ≡ true = ap ascend ks.named ∙ rise in
       let flat : depth (object (keys_in names ms)) ≤ max_depth = omega (arith, ks.flat) in
-      let back = compact-read (object (keys_in names ms)) (up, ks.spelled) (keys_clean names ms clean) flat in
+      let back = compact-read (object (keys_in names ms)) (up, ks.encodable) (keys_clean names ms clean) flat in
       let reads_as = key_read (keys_in names ms) ks.keys back ks.are (some_key names all ks.keys some ks.fit) (keys_text (keys_in names ms) ks.keys ks.are) in
-      let marked_top : fin.get (over (here standing.mark) y) [] ≡ Some standing.mark = get-over (here standing.mark) y [] ∙ ap (λ o. either o (fin.get y [])) (get-here-top standing.mark) in
-      let below_mark = λ (g : List ℕ) (q : PathTexts). get-over (here standing.mark) y (g ∷ q) ∙ ap (λ o. either o (fin.get y (g ∷ q))) (get-here-below standing.mark g q) in (
+      let marked_top : fin.get (over (here leaf_value.mark) y) [] ≡ Some leaf_value.mark = get-over (here leaf_value.mark) y [] ∙ ap (λ o. either o (fin.get y [])) (get-here-top leaf_value.mark) in
+      let below_mark = λ (g : List ℕ) (q : PathTexts). get-over (here leaf_value.mark) y (g ∷ q) ∙ ap (λ o. either o (fin.get y (g ∷ q))) (get-here-below leaf_value.mark g q) in (
         (
           ks.keys,
           reads_as,
@@ -609,7 +609,7 @@ module _ (names : List (List ℕ)) (all : Fields) (some : is_some_name names ≡
           (λ g q apart. below_mark g q ∙ item_none names all g q y apart (each g)),
           (λ f named. inside-marked (name_text f) y ∙ item_bare names all f (inside (name_text f) y) named (each (name_text f))),
         ),
-        fields_placed all all (over (here standing.mark) y) (all_found all all (ascend_rising (names_of all) fields_rise) (λ k d t. refl)) place (λ f.
+        fields_well_typed all all (over (here leaf_value.mark) y) (all_found all all (ascend_rising (names_of all) fields_rise) (λ k d t. refl)) place (λ f.
             subst (FieldAt all f) (sym (inside-marked (name_text f) y)) (item_each names all f (inside (name_text f) y) (each (name_text f)))),
       )
 
@@ -622,7 +622,7 @@ module _ (names : List (List ℕ)) (all : Fields) (some : is_some_name names ≡
       let ks = keys_are names all ms (ascend_rising names rise) (key_is names all ms y scalars keys h good.0.1 shallow) in
       ap (option_map (λ x. 107 ∷ 58 ∷ compact_text (object (keys_in names ms)))) (ap some_keys ks.are ∙ some_key names all ks.keys some ks.fit)
 
-  keyed_at : (b : Bool) (d : Data) (e : List ℕ) (y x : Content) → Good d → keyed_item names (λ ms. content_of_item (struct_of all b) names ms) d ≡ Ok (e, y) → x ≡ over (here standing.mark) y → IsKeyed e x
+  keyed_at : (b : Bool) (d : Data) (e : List ℕ) (y x : Content) → Good d → keyed_item names (λ ms. content_of_item (struct_of all b) names ms) d ≡ Ok (e, y) → x ≡ over (here leaf_value.mark) y → IsKeyed e x
   keyed_at b null e y x good h is = absurd (err_not_ok _ (e, y) h)
   keyed_at b (boolean t) e y x good h is = absurd (err_not_ok _ (e, y) h)
   keyed_at b (number n) e y x good h is = absurd (err_not_ok _ (e, y) h)
@@ -635,7 +635,7 @@ module _ (names : List (List ℕ)) (all : Fields) (some : is_some_name names ≡
           let k = and_then_ok (members_at (item_members names all) ms) (named_item (list_item_text (object (keys_in names ms)))) (pair e y) h in
           let named = named_is (list_item_text (object (keys_in names ms))) (key_text (keys_in names ms)) k.0 (pair e y) (keys_named ms k.0 good keys k.1) k.2 in
           let made = item_of ms k.0 good keys k.1 (content_item_clean (struct_of all b) names ms k.0 k.1) in
-          subst (λ z. IsKeyed e z) (sym (is ∙ ap (λ p. over (here standing.mark) p.1) named)) (subst (λ f. IsKeyed f (over (here standing.mark) k.0)) (sym (ap pair_text named)) made)
+          subst (λ z. IsKeyed e z) (sym (is ∙ ap (λ p. over (here leaf_value.mark) p.1) named)) (subst (λ f. IsKeyed f (over (here leaf_value.mark) k.0)) (sym (ap pair_text named)) made)
 
       by_keys : (t : Bool) → have_keys names ms ≡ t → cond t (and_then (members_at (item_members names all) ms) (named_item (list_item_text (object (keys_in names ms))))) (Err (KeyFieldMissing, [])) ≡ Ok (e, y) → IsKeyed e x
       by_keys true keys h = of_members h keys
@@ -645,8 +645,8 @@ module _ (names : List (List ℕ)) (all : Fields) (some : is_some_name names ≡
   keyed_each b e x (inl none) = inl none
   keyed_each b e x (inr (d, y, good, reads, stands)) = inr (keyed_at b d e y x good reads stands)
 
-  list_placed : (b : Bool) (ds : Items) (c : Content) → Good (array ds) → items_at (keyed_item names (λ ms. content_of_item (struct_of all b) names ms)) 0 [] ds ≡ Ok c → IsPlaced (list_of (struct_of all b) (keyed names)) c
-  list_placed b ds c good h =
+  list_well_typed : (b : Bool) (ds : Items) (c : Content) → Good (array ds) → items_at (keyed_item names (λ ms. content_of_item (struct_of all b) names ms)) 0 [] ds ≡ Ok c → IsWellTyped (list_of (struct_of all b) (keyed names)) c
+  list_well_typed b ds c good h =
       let inner = keyed_item names (λ ms. content_of_item (struct_of all b) names ms) in
       let deep : depth (array ds) ≤ max_depth = good.1 in
       (items_top inner 0 [] ds c h, λ e. keyed_each b e (inside e c) (items_each inner 0 [] ds c h good.0 (omega (arith, deep)) e))
@@ -671,25 +671,25 @@ array_in (array ds) f c h = (ds, refl, h)
 
 mutual
   pub place : (s : Shape) → is_well_formed s ≡ true → Places s
-  place text lawful d c good h = text_placed d c h
-  place whole lawful d c good h = whole_placed d c good.0 h
-  place truth lawful d c good h = truth_placed d c h
-  place (struct_of all true) lawful d c good h = atomic_placed (struct_of all true) d c good h
+  place text lawful d c good h = text_well_typed d c h
+  place whole lawful d c good h = whole_well_typed d c good.0 h
+  place truth lawful d c good h = truth_well_typed d c h
+  place (struct_of all true) lawful d c good h = atomic_well_typed (struct_of all true) d c good h
   place (struct_of all false) lawful d c good h =
       let p = and_parts (ascend (names_of all)) _ lawful in
       let found = object_in d (members_at (λ k e. content_of_field all k e)) c h in
-      struct_placed all found.0 c p.0 (place_all all p.1) (subst Good found.1 good) found.2
-  place (map_of s true) lawful d c good h = atomic_placed (map_of s true) d c good h
+      struct_well_typed all found.0 c p.0 (place_all all p.1) (subst Good found.1 good) found.2
+  place (map_of s true) lawful d c good h = atomic_well_typed (map_of s true) d c good h
   place (map_of s false) lawful d c good h =
-      let found = object_in d (members_at (λ k e. content_of s e)) c h in map_placed s found.0 c (place s lawful) (subst Good found.1 good) found.2
-  place (list_of s atomic) lawful d c good h = atomic_placed (list_of s atomic) d c good h
+      let found = object_in d (members_at (λ k e. content_of s e)) c h in map_well_typed s found.0 c (place s lawful) (subst Good found.1 good) found.2
+  place (list_of s atomic) lawful d c good h = atomic_well_typed (list_of s atomic) d c good h
   place (list_of s set) lawful d c good h =
-      let found = array_in d (items_at (set_item (plain_of s)) 0 []) c h in set_placed s found.0 c (and_parts (is_scalar s) _ lawful).0 (subst Good found.1 good) found.2
+      let found = array_in d (items_at (set_item (plain_of s)) 0 []) c h in set_well_typed s found.0 c (and_parts (is_scalar s) _ lawful).0 (subst Good found.1 good) found.2
   place (list_of s (keyed names)) lawful d c good h =
       let found = array_in d (items_at (keyed_item names (λ ms. content_of_item s names ms)) 0 []) c h in place_keyed names s lawful found.0 c (subst Good found.1 good) found.2
 
   place_keyed : (names : List (List ℕ)) (s : Shape) → is_well_formed (list_of s (keyed names)) ≡ true → (ds : Items) (c : Content) → Good (array ds) → items_at (keyed_item names (λ ms. content_of_item s names ms)) 0 [] ds ≡ Ok c
-      → IsPlaced (list_of s (keyed names)) c
+      → IsWellTyped (list_of s (keyed names)) c
   place_keyed names text lawful ds c good h = absurd (true≢false (sym (and_parts (is_some_name names && ascend names) _ (and_parts (item_is_lawful (keyed names) text) _ lawful).0).1))
   place_keyed names whole lawful ds c good h = absurd (true≢false (sym (and_parts (is_some_name names && ascend names) _ (and_parts (item_is_lawful (keyed names) whole) _ lawful).0).1))
   place_keyed names truth lawful ds c good h = absurd (true≢false (sym (and_parts (is_some_name names && ascend names) _ (and_parts (item_is_lawful (keyed names) truth) _ lawful).0).1))
@@ -703,11 +703,11 @@ mutual
       let names_so = and_parts (is_some_name names) (ascend names) item_so.0 in
       let scalars = (and_parts (not b) (list_all (λ n. is_some_scalar (shape_at n all)) names) item_so.1).1 in
       let struct_so = and_parts (ascend (names_of all)) (are_well_formed all) both.1 in
-      list_placed names all names_so.0 names_so.1 scalars struct_so.0 (place_all all struct_so.1) b ds c good h
+      list_well_typed names all names_so.0 names_so.1 scalars struct_so.0 (place_all all struct_so.1) b ds c good h
 
   place_all : (all : Fields) → are_well_formed all ≡ true → AllPlace all
   place_all no_fields lawful = tt
   place_all (field f s more) lawful = let p = and_parts (is_well_formed s) _ lawful in (place s p.0, place_all more p.1)
 
-pub placed : ReadingsArePlaced
-placed s d c lawful spelled shallow h = place s lawful d c (spelled, shallow) h
+pub well_typed : ReadingsAreWellTyped
+well_typed s d c lawful encodable shallow h = place s lawful d c (encodable, shallow) h

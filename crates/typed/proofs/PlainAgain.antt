@@ -9,7 +9,7 @@ use Rattle.std.specs.Str.{bytes_eq}
 use Rattle.serde_json.specs.Data.{Data, null, boolean, number, string, array, object, Items, no_items, item, Members, no_members, member, depth, items_depth, members_depth}
 use Rattle.serde_json.specs.Find.{get_member, as_array, as_object}
 use Rattle.fieldpath.specs.Scalars.{ascend, ascend_from}
-use Rattle.fieldpath.specs.Spelled.{IsSpelled, AreSpelled, MembersAreSpelled, member_names}
+use Rattle.fieldpath.specs.Encodable.{IsEncodable, AreEncodable, MembersAreEncodable, member_names}
 use Rattle.schema.specs.Shape.{Kind, atomic, set, keyed, Shape, text, whole, truth, struct_of, map_of, list_of, Fields, no_fields, field}
 use Rattle.typed.specs.declared.fault.Cause.TheVariants.{NotAnObject, WrongType, KeyFieldMissing}
 use Rattle.typed.specs.Faults.{Fault, Read, below, and_then, some_or, shown_name, shown_place}
@@ -66,14 +66,14 @@ field_full (field known s more) k d x h = either_ok (is_null x ≡ false) (bytes
 -- ---- members
 
 abbrev Leaf : (Data → Read Data) → Data → Data → Type 0
-Leaf inner d x = (inner x ≡ Ok x) × (IsSpelled x) × (depth x ≤ depth d)
+Leaf inner d x = (inner x ≡ Ok x) × (IsEncodable x) × (depth x ≤ depth d)
 
 -- members that were read of others
 record MembersLeaf (inner : List ℕ → Data → Read Data) (ms ns : Members) : Type 0 where
   pub again : plain_members inner ns ≡ Ok ns
   pub from : (n : List ℕ) → ascend_from n (member_names ms) ≡ true → ascend_from n (member_names ns) ≡ true
   pub order : ascend (member_names ms) ≡ true → ascend (member_names ns) ≡ true
-  pub spelled : MembersAreSpelled ns
+  pub encodable : MembersAreEncodable ns
   pub shallow : members_depth ns ≤ members_depth ms
 
 abbrev AreThere : Members → Members → Type 0
@@ -112,10 +112,10 @@ module _ (inner : List ℕ → Data → Read Data) where
             let t = taken k d ms ns h in
             ap (λ m. is_there (get_member n m)) t.4 ∙ there_one (slice_cmp nat_cmp n k) d t.0 (get_member n ms) (get_member n t.1) (full k d t.0 t.2) (later t.1 t.3) there
 
-    module _ (leaf : (k : List ℕ) (d x : Data) → inner k d ≡ Ok x → IsSpelled d → Leaf (inner k) d x) where
-      one_leaf : (k : List ℕ) (d x : Data) (ms more : Members) → inner k d ≡ Ok x → IsSpelled d → MembersLeaf inner ms more → MembersLeaf inner (member k d ms) (member k x more)
-      one_leaf k d x ms more read spelled rest =
-          let one = leaf k d x read spelled in
+    module _ (leaf : (k : List ℕ) (d x : Data) → inner k d ≡ Ok x → IsEncodable d → Leaf (inner k) d x) where
+      one_leaf : (k : List ℕ) (d x : Data) (ms more : Members) → inner k d ≡ Ok x → IsEncodable d → MembersLeaf inner ms more → MembersLeaf inner (member k d ms) (member k x more)
+      one_leaf k d x ms more read encodable rest =
+          let one = leaf k d x read encodable in
           let shallow : depth x ≤ depth d = one.2 in
           let others = rest.shallow in
           record {
@@ -124,14 +124,14 @@ module _ (inner : List ℕ → Data → Read Data) where
                 ∙ ap (λ r. and_then (below (shown_name k) (λ y. y) r) (λ y. below [] (member k y) (plain_members inner more))) one.0 ∙ ap (below [] (member k x)) rest.again;
             from = λ n up. let p = and_parts (is_lt (slice_cmp nat_cmp n k)) _ up in both_true p.0 (rest.from k p.1);
             order = λ up. rest.from k up;
-            spelled = (one.1, rest.spelled);
+            encodable = (one.1, rest.encodable);
             shallow = omega (arith, shallow, others);
           }
 
-      members_leaf : (ms ns : Members) → plain_members inner ms ≡ Ok ns → MembersAreSpelled ms → MembersLeaf inner ms ns
-      members_leaf no_members ns h spelled =
-          subst (MembersLeaf inner no_members) (ok_is no_members ns h) (record { again = refl; from = λ n up. up; order = λ up. up; spelled = tt; shallow = omega arith })
-      members_leaf (member k d ms) ns h spelled = by_null (is_null d) h (λ more read. members_leaf ms more read spelled.1)
+      members_leaf : (ms ns : Members) → plain_members inner ms ≡ Ok ns → MembersAreEncodable ms → MembersLeaf inner ms ns
+      members_leaf no_members ns h encodable =
+          subst (MembersLeaf inner no_members) (ok_is no_members ns h) (record { again = refl; from = λ n up. up; order = λ up. up; encodable = tt; shallow = omega arith })
+      members_leaf (member k d ms) ns h encodable = by_null (is_null d) h (λ more read. members_leaf ms more read encodable.1)
         where
           by_null : (b : Bool) → cond b (plain_members inner ms) (and_then (below (shown_name k) (λ x. x) (inner k d)) (λ x. below [] (member k x) (plain_members inner ms))) ≡ Ok ns
               → ((more : Members) → plain_members inner ms ≡ Ok more → MembersLeaf inner ms more) → MembersLeaf inner (member k d ms) ns
@@ -142,55 +142,55 @@ module _ (inner : List ℕ → Data → Read Data) where
                 again = rest.again;
                 from = λ n up. rest.from n (ascend_skip n k (member_names ms) up);
                 order = λ up. rest.order (ascend_rest k (member_names ms) up);
-                spelled = rest.spelled;
+                encodable = rest.encodable;
                 shallow = omega (arith, others);
               }
-          by_null false h later = let t = taken k d ms ns h in subst (MembersLeaf inner (member k d ms)) (sym t.4) (one_leaf k d t.0 ms t.1 t.2 spelled.0 (later t.1 t.3))
+          by_null false h later = let t = taken k d ms ns h in subst (MembersLeaf inner (member k d ms)) (sym t.4) (one_leaf k d t.0 ms t.1 t.2 encodable.0 (later t.1 t.3))
 
-      object_leaf : (d x : Data) → and_then (some_or NotAnObject (as_object d)) (λ ms. below [] object (plain_members inner ms)) ≡ Ok x → IsSpelled d
+      object_leaf : (d x : Data) → and_then (some_or NotAnObject (as_object d)) (λ ms. below [] object (plain_members inner ms)) ≡ Ok x → IsEncodable d
           → Leaf (λ e. and_then (some_or NotAnObject (as_object e)) (λ ms. below [] object (plain_members inner ms))) d x
-      object_leaf null x h spelled = absurd (err_not_ok _ x h)
-      object_leaf (boolean b) x h spelled = absurd (err_not_ok _ x h)
-      object_leaf (number n) x h spelled = absurd (err_not_ok _ x h)
-      object_leaf (string s) x h spelled = absurd (err_not_ok _ x h)
-      object_leaf (array ds) x h spelled = absurd (err_not_ok _ x h)
-      object_leaf (object ms) x h spelled =
+      object_leaf null x h encodable = absurd (err_not_ok _ x h)
+      object_leaf (boolean b) x h encodable = absurd (err_not_ok _ x h)
+      object_leaf (number n) x h encodable = absurd (err_not_ok _ x h)
+      object_leaf (string s) x h encodable = absurd (err_not_ok _ x h)
+      object_leaf (array ds) x h encodable = absurd (err_not_ok _ x h)
+      object_leaf (object ms) x h encodable =
           let made = below_ok [] object (plain_members inner ms) x h in
-          let kept = members_leaf ms made.0 made.1 spelled.1 in
+          let kept = members_leaf ms made.0 made.1 encodable.1 in
           let others = kept.shallow in
           subst (Leaf (λ e. and_then (some_or NotAnObject (as_object e)) (λ ms. below [] object (plain_members inner ms))) (object ms)) (sym made.2)
-          (ap (below [] object) kept.again, (kept.order spelled.0, kept.spelled), omega (arith, others))
+          (ap (below [] object) kept.again, (kept.order encodable.0, kept.encodable), omega (arith, others))
 
 -- ---- items
 
-module _ (inner : Data → Read Data) (leaf : (d x : Data) → inner d ≡ Ok x → IsSpelled d → Leaf inner d x) where
+module _ (inner : Data → Read Data) (leaf : (d x : Data) → inner d ≡ Ok x → IsEncodable d → Leaf inner d x) where
   abbrev ItemsLeaf : ℕ → Items → Items → Type 0
-  ItemsLeaf i ds es = (plain_items inner i es ≡ Ok es) × (AreSpelled es) × (items_depth es ≤ items_depth ds)
+  ItemsLeaf i ds es = (plain_items inner i es ≡ Ok es) × (AreEncodable es) × (items_depth es ≤ items_depth ds)
 
-  items_leaf : (i : ℕ) (ds es : Items) → plain_items inner i ds ≡ Ok es → AreSpelled ds → ItemsLeaf i ds es
-  items_leaf i no_items es h spelled = subst (ItemsLeaf i no_items) (ok_is no_items es h) (refl, tt, omega arith)
-  items_leaf i (item d ds) es h spelled =
+  items_leaf : (i : ℕ) (ds es : Items) → plain_items inner i ds ≡ Ok es → AreEncodable ds → ItemsLeaf i ds es
+  items_leaf i no_items es h encodable = subst (ItemsLeaf i no_items) (ok_is no_items es h) (refl, tt, omega arith)
+  items_leaf i (item d ds) es h encodable =
       let one = and_then_ok (below (shown_place i) (λ x. x) (inner d)) (λ x. below [] (item x) (plain_items inner (suc i) ds)) es h in
       let found = below_ok (shown_place i) (λ x. x) (inner d) one.0 one.1 in
       let more = below_ok [] (item one.0) (plain_items inner (suc i) ds) es one.2 in
       let x = found.0 in
-      let kept = leaf d x found.1 spelled.0 in
-      let rest = items_leaf (suc i) ds more.0 more.1 spelled.1 in
+      let kept = leaf d x found.1 encodable.0 in
+      let rest = items_leaf (suc i) ds more.0 more.1 encodable.1 in
       let first : depth x ≤ depth d = kept.2 in
       let others : items_depth more.0 ≤ items_depth ds = rest.2 in
       subst (ItemsLeaf i (item d ds)) (sym (more.2 ∙ ap (λ y. item y more.0) found.2))
       (ap (λ r. and_then (below (shown_place i) (λ y. y) r) (λ y. below [] (item y) (plain_items inner (suc i) more.0))) kept.0 ∙ ap (below [] (item x)) rest.0, (kept.1, rest.1), omega (arith, first, others))
 
-  array_leaf : (d x : Data) → and_then (some_or WrongType (as_array d)) (λ ds. below [] array (plain_items inner 0 ds)) ≡ Ok x → IsSpelled d
+  array_leaf : (d x : Data) → and_then (some_or WrongType (as_array d)) (λ ds. below [] array (plain_items inner 0 ds)) ≡ Ok x → IsEncodable d
       → Leaf (λ e. and_then (some_or WrongType (as_array e)) (λ ds. below [] array (plain_items inner 0 ds))) d x
-  array_leaf null x h spelled = absurd (err_not_ok _ x h)
-  array_leaf (boolean b) x h spelled = absurd (err_not_ok _ x h)
-  array_leaf (number n) x h spelled = absurd (err_not_ok _ x h)
-  array_leaf (string s) x h spelled = absurd (err_not_ok _ x h)
-  array_leaf (object ms) x h spelled = absurd (err_not_ok _ x h)
-  array_leaf (array ds) x h spelled =
+  array_leaf null x h encodable = absurd (err_not_ok _ x h)
+  array_leaf (boolean b) x h encodable = absurd (err_not_ok _ x h)
+  array_leaf (number n) x h encodable = absurd (err_not_ok _ x h)
+  array_leaf (string s) x h encodable = absurd (err_not_ok _ x h)
+  array_leaf (object ms) x h encodable = absurd (err_not_ok _ x h)
+  array_leaf (array ds) x h encodable =
       let made = below_ok [] array (plain_items inner 0 ds) x h in
-      let kept = items_leaf 0 ds made.0 made.1 spelled in
+      let kept = items_leaf 0 ds made.0 made.1 encodable in
       let others : items_depth made.0 ≤ items_depth ds = kept.2 in
       subst (Leaf (λ e. and_then (some_or WrongType (as_array e)) (λ ds. below [] array (plain_items inner 0 ds))) (array ds)) (sym made.2)
       (ap (below [] array) kept.0, kept.1, omega (arith, others))
@@ -215,37 +215,37 @@ keys_stay : (names : List (List ℕ)) (ms ns : Members) → AreThere ms ns → h
 keys_stay [] ms ns there h = refl
 keys_stay (k ∷ ks) ms ns there h = let p = and_parts (is_there (get_member k ms)) _ h in both_true (there k p.0) (keys_stay ks ms ns there p.1)
 
-module _ (s : Shape) (leaf : (d x : Data) → plain_of s d ≡ Ok x → IsSpelled d → Leaf (plain_of s) d x) where
+module _ (s : Shape) (leaf : (d x : Data) → plain_of s d ≡ Ok x → IsEncodable d → Leaf (plain_of s) d x) where
   abbrev of_kind : Kind → Data → Read Data
   of_kind kind = plain_item kind (λ e. plain_of s e) (λ ms. plain_of s (object ms))
 
-  keyed_leaf : (names : List (List ℕ)) (ms : Members) (x : Data) → have_keys names ms ≡ true → plain_of s (object ms) ≡ Ok x → IsSpelled (object ms) → Leaf (of_kind (keyed names)) (object ms) x
-  keyed_leaf names ms x keys h spelled =
-      let kept = leaf (object ms) x h spelled in
+  keyed_leaf : (names : List (List ℕ)) (ms : Members) (x : Data) → have_keys names ms ≡ true → plain_of s (object ms) ≡ Ok x → IsEncodable (object ms) → Leaf (of_kind (keyed names)) (object ms) x
+  keyed_leaf names ms x keys h encodable =
+      let kept = leaf (object ms) x h encodable in
       let stays = stays_object s ms x h in
       let there = keys_stay names ms stays.0 stays.2 keys in
       (ap (of_kind (keyed names)) stays.1 ∙ ap (λ b. cond b (plain_of s (object stays.0)) (Err (KeyFieldMissing, []))) there ∙ ap (plain_of s) (sym stays.1) ∙ kept.0, kept.1, kept.2)
 
-  item_leaf : (kind : Kind) (d x : Data) → of_kind kind d ≡ Ok x → IsSpelled d → Leaf (of_kind kind) d x
-  item_leaf set d x h spelled = leaf d x h spelled
-  item_leaf atomic d x h spelled =
+  item_leaf : (kind : Kind) (d x : Data) → of_kind kind d ≡ Ok x → IsEncodable d → Leaf (of_kind kind) d x
+  item_leaf set d x h encodable = leaf d x h encodable
+  item_leaf atomic d x h encodable =
       either_ok (Leaf (of_kind atomic) d x) (is_null d) (Err (WrongType, [])) (plain_of s d) x h (λ wrong. absurd (err_not_ok _ x wrong)) (λ read.
-      let kept = leaf d x read spelled in (ap (λ b. cond b (Err (WrongType, [])) (plain_of s x)) (plain_full s d x read) ∙ kept.0, kept.1, kept.2))
-  item_leaf (keyed names) null x h spelled = absurd (err_not_ok _ x h)
-  item_leaf (keyed names) (boolean b) x h spelled = absurd (err_not_ok _ x h)
-  item_leaf (keyed names) (number n) x h spelled = absurd (err_not_ok _ x h)
-  item_leaf (keyed names) (string t) x h spelled = absurd (err_not_ok _ x h)
-  item_leaf (keyed names) (array ds) x h spelled = absurd (err_not_ok _ x h)
-  item_leaf (keyed names) (object ms) x h spelled = by_keys (have_keys names ms) refl h
+      let kept = leaf d x read encodable in (ap (λ b. cond b (Err (WrongType, [])) (plain_of s x)) (plain_full s d x read) ∙ kept.0, kept.1, kept.2))
+  item_leaf (keyed names) null x h encodable = absurd (err_not_ok _ x h)
+  item_leaf (keyed names) (boolean b) x h encodable = absurd (err_not_ok _ x h)
+  item_leaf (keyed names) (number n) x h encodable = absurd (err_not_ok _ x h)
+  item_leaf (keyed names) (string t) x h encodable = absurd (err_not_ok _ x h)
+  item_leaf (keyed names) (array ds) x h encodable = absurd (err_not_ok _ x h)
+  item_leaf (keyed names) (object ms) x h encodable = by_keys (have_keys names ms) refl h
     where
       by_keys : (b : Bool) → have_keys names ms ≡ b → cond b (plain_of s (object ms)) (Err (KeyFieldMissing, [])) ≡ Ok x → Leaf (of_kind (keyed names)) (object ms) x
-      by_keys true is h = keyed_leaf names ms x is h spelled
+      by_keys true is h = keyed_leaf names ms x is h encodable
       by_keys false is h = absurd (err_not_ok _ x h)
 
 -- ---- the value at a leaf
 
-scalar_leaf : (inner : Data → Read Data) (d x : Data) → x ≡ d → inner d ≡ Ok x → IsSpelled d → Leaf inner d x
-scalar_leaf inner d x same h spelled = subst (Leaf inner d) (sym same) (h ∙ ap Ok same, spelled, omega arith)
+scalar_leaf : (inner : Data → Read Data) (d x : Data) → x ≡ d → inner d ≡ Ok x → IsEncodable d → Leaf inner d x
+scalar_leaf inner d x same h encodable = subst (Leaf inner d) (sym same) (h ∙ ap Ok same, encodable, omega arith)
 
 by_field : (s : Shape) (more : Fields) (known k : List ℕ) (d x : Data) (b : Bool) → bytes_eq known k ≡ b → cond b (plain_of s d) (plain_of_field more k d) ≡ Ok x → (plain_of s d ≡ Ok x → Leaf (plain_of s) d x)
     → (plain_of_field more k d ≡ Ok x → Leaf (plain_of_field more k) d x) → Leaf (plain_of_field (field known s more) k) d x
@@ -253,14 +253,14 @@ by_field s more known k d x true is h here later = let kept = here h in (ap (λ 
 by_field s more known k d x false is h here later = let kept = later h in (ap (λ b. cond b (plain_of s x) (plain_of_field more k x)) is ∙ kept.0, kept.1, kept.2)
 
 mutual
-  pub plain_leaf : (s : Shape) (d x : Data) → plain_of s d ≡ Ok x → IsSpelled d → Leaf (plain_of s) d x
-  plain_leaf text d x h spelled = scalar_leaf (plain_of text) d x (below_ok [] (λ s. d) (text_in d) x h).2 h spelled
-  plain_leaf whole d x h spelled = scalar_leaf (plain_of whole) d x (below_ok [] (λ s. d) (whole_in d) x h).2 h spelled
-  plain_leaf truth d x h spelled = scalar_leaf (plain_of truth) d x (below_ok [] (λ s. d) (truth_in d) x h).2 h spelled
-  plain_leaf (struct_of all b) d x h spelled = object_leaf (λ k e. plain_of_field all k e) (λ k e y. field_full all k e y) (λ k e y. field_leaf all k e y) d x h spelled
-  plain_leaf (map_of s b) d x h spelled = object_leaf (λ k e. plain_of s e) (λ k e y. plain_full s e y) (λ k e y. plain_leaf s e y) d x h spelled
-  plain_leaf (list_of s kind) d x h spelled = array_leaf (plain_item kind (λ e. plain_of s e) (λ ms. plain_of s (object ms))) (item_leaf s (λ e y. plain_leaf s e y) kind) d x h spelled
+  pub plain_leaf : (s : Shape) (d x : Data) → plain_of s d ≡ Ok x → IsEncodable d → Leaf (plain_of s) d x
+  plain_leaf text d x h encodable = scalar_leaf (plain_of text) d x (below_ok [] (λ s. d) (text_in d) x h).2 h encodable
+  plain_leaf whole d x h encodable = scalar_leaf (plain_of whole) d x (below_ok [] (λ s. d) (whole_in d) x h).2 h encodable
+  plain_leaf truth d x h encodable = scalar_leaf (plain_of truth) d x (below_ok [] (λ s. d) (truth_in d) x h).2 h encodable
+  plain_leaf (struct_of all b) d x h encodable = object_leaf (λ k e. plain_of_field all k e) (λ k e y. field_full all k e y) (λ k e y. field_leaf all k e y) d x h encodable
+  plain_leaf (map_of s b) d x h encodable = object_leaf (λ k e. plain_of s e) (λ k e y. plain_full s e y) (λ k e y. plain_leaf s e y) d x h encodable
+  plain_leaf (list_of s kind) d x h encodable = array_leaf (plain_item kind (λ e. plain_of s e) (λ ms. plain_of s (object ms))) (item_leaf s (λ e y. plain_leaf s e y) kind) d x h encodable
 
-  field_leaf : (all : Fields) (k : List ℕ) (d x : Data) → plain_of_field all k d ≡ Ok x → IsSpelled d → Leaf (plain_of_field all k) d x
-  field_leaf no_fields k d x h spelled = absurd (err_not_ok _ x h)
-  field_leaf (field known s more) k d x h spelled = by_field s more known k d x (bytes_eq known k) refl h (λ read. plain_leaf s d x read spelled) (λ read. field_leaf more k d x read spelled)
+  field_leaf : (all : Fields) (k : List ℕ) (d x : Data) → plain_of_field all k d ≡ Ok x → IsEncodable d → Leaf (plain_of_field all k) d x
+  field_leaf no_fields k d x h encodable = absurd (err_not_ok _ x h)
+  field_leaf (field known s more) k d x h encodable = by_field s more known k d x (bytes_eq known k) refl h (λ read. plain_leaf s d x read encodable) (λ read. field_leaf more k d x read encodable)

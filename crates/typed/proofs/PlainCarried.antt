@@ -11,7 +11,7 @@ use Rattle.schema.specs.Shape.{Kind, atomic, set, keyed, Shape, text, whole, tru
 use Rattle.schema.specs.Becoming.{becomes, fields_become}
 use Rattle.typed.specs.declared.fault.Cause.TheVariants.{NotAnObject, WrongType, KeyFieldMissing}
 use Rattle.typed.specs.Faults.{Read, below, and_then, some_or, shown_name, shown_place}
-use Rattle.typed.specs.Placed.{IsAtomic}
+use Rattle.typed.specs.WellTyped.{IsAtomic}
 use Rattle.typed.specs.Reading.{is_null, plain_members, plain_items, plain_item, plain_of, plain_of_field, have_keys}
 use Rattle.typed.proofs.Floats.{err_not_ok, below_ok, and_then_ok, either_ok}
 use Rattle.pathmap.specs.Contents.{Content}

@@ -15,8 +15,8 @@ use Rattle.serde_json.specs.Data.{Data, null, boolean, number, string, array, ob
 use Rattle.serde_json.specs.Find.{of_integer, as_i64}
 use Rattle.serde_json.specs.Written.{compact_text}
 use Rattle.fieldpath.specs.Elements.{name_text, field_name}
-use Rattle.pathmap.specs.Contents.{Standing, Content, nothing, here}
-use Rattle.pathmap.specs.Contents as standing
+use Rattle.pathmap.specs.Contents.{LeafValue, Content, nothing, here}
+use Rattle.pathmap.specs.Contents as leaf_value
 use Rattle.pathmap.specs.Insides.{inside, heads}
 use Rattle.pathmap.proofs.Levels.{get-here-top}
 use Rattle.pathmap.proofs.Heads.{itself}
@@ -26,7 +26,7 @@ use Rattle.schema.specs.Lawful.{names_of, item_is_lawful, has_keys, is_scalar, i
 use Rattle.schema.specs.Shape.{atomic, set, keyed, Shape, text, whole, truth, struct_of, map_of, list_of, Fields, no_fields, field, shape_at}
 use Rattle.typed.specs.declared.fault.Cause.TheVariants.{WrongType, KeyFieldMissing}
 use Rattle.typed.specs.Faults.{Read, below, and_then, some_or, shown_name, shown_place}
-use Rattle.typed.specs.Placed.{IsWithin, IsAtomic, IsSetItem, HasKeys, IsItem, IsPlaced, ArePlaced}
+use Rattle.typed.specs.WellTyped.{IsWithin, IsAtomic, IsSetItem, HasKeys, IsItem, IsWellTyped, AreWellTyped}
 use Rattle.typed.specs.Printing.{value_at, value_of, object_or_none, array_or_none, with_member, with_named, each_member, each_item, scalar_in, print, print_item, print_fields}
 use Rattle.typed.specs.Printing as printing
 use Rattle.typed.specs.Reading.{is_null, plain_members, plain_items, plain_item, plain_of, plain_of_field, leaf, content_of, text_in, whole_in, truth_in}
@@ -165,16 +165,16 @@ every P (h ∷ hs) each = (each h (one_so (bytes_eq h h) (list_any (bytes_eq h) 
 at_none : (s : Shape) (c : Content) → c ≡ nothing → Plain (plain_of s) (print s c)
 at_none s c none = subst (Plain (plain_of s)) (sym (ap (print s) none ∙ print-nothing s)) tt
 
-at_value : (s : Shape) (c : Content) (v : Standing) (d : Data) → c ≡ here v → value_of v ≡ Some d → plain_of s d ≡ Ok d → Plain (plain_of s) (value_at c)
+at_value : (s : Shape) (c : Content) (v : LeafValue) (d : Data) → c ≡ here v → value_of v ≡ Some d → plain_of s d ≡ Ok d → Plain (plain_of s) (value_at c)
 at_value s c v d is value plain = subst (Plain (plain_of s)) (sym (ap (λ x. option_and_then value_of (fin.get x [])) is ∙ ap (option_and_then value_of) (get-here-top v) ∙ value)) plain
 
 at_atomic : (s : Shape) (c : Content) → (c ≡ nothing → Plain (plain_of s) (value_at c)) → IsAtomic s c → Plain (plain_of s) (value_at c)
 at_atomic s c bare (inl none) = bare none
 at_atomic s c bare (inr (d, plain, reads, is)) = by_leaf (leaf_is d)
   where
-    by_leaf : (leaf d ≡ nothing) ⊎ (leaf d ≡ here (standing.plain (compact_text d))) → Plain (plain_of s) (value_at c)
+    by_leaf : (leaf d ≡ nothing) ⊎ (leaf d ≡ here (leaf_value.plain (compact_text d))) → Plain (plain_of s) (value_at c)
     by_leaf (inl none) = bare (is ∙ none)
-    by_leaf (inr there) = at_value s c (standing.plain (compact_text d)) d (is ∙ there) reads plain
+    by_leaf (inr there) = at_value s c (leaf_value.plain (compact_text d)) d (is ∙ there) reads plain
 
 below_is : (m n : ℕ) → m < n → nat_lt m n ≡ true
 below_is m n h = grind (arith, nat_tests)
@@ -186,9 +186,9 @@ within_is (negsuc m) lt = refl
 -- ---- key fields
 
 scalar_plain : (s : Shape) (d : Data) (x : Content) → is_scalar s ≡ true → content_of s d ≡ Ok x → plain_of s d ≡ Ok d
-scalar_plain text d x h reads = let k = below_ok [] (λ s. here (standing.text s)) (text_in d) x reads in ap (below [] (λ s. d)) k.1
-scalar_plain whole d x h reads = let k = below_ok [] (λ n. here (standing.whole n)) (whole_in d) x reads in ap (below [] (λ n. d)) k.1
-scalar_plain truth d x h reads = let k = below_ok [] (λ b. here (standing.truth b)) (truth_in d) x reads in ap (below [] (λ b. d)) k.1
+scalar_plain text d x h reads = let k = below_ok [] (λ s. here (leaf_value.text s)) (text_in d) x reads in ap (below [] (λ s. d)) k.1
+scalar_plain whole d x h reads = let k = below_ok [] (λ n. here (leaf_value.whole n)) (whole_in d) x reads in ap (below [] (λ n. d)) k.1
+scalar_plain truth d x h reads = let k = below_ok [] (λ b. here (leaf_value.truth b)) (truth_in d) x reads in ap (below [] (λ b. d)) k.1
 scalar_plain (struct_of all b) d x h reads = absurd (true≢false (sym h))
 scalar_plain (map_of s b) d x h reads = absurd (true≢false (sym h))
 scalar_plain (list_of s kind) d x h reads = absurd (true≢false (sym h))
@@ -229,7 +229,7 @@ any_member s (Some d) plain k = (no_null s d d plain, plain)
 
 set_item_plain : (s : Shape) (c : Content) (e : List ℕ) → list_any (bytes_eq e) (heads c) ≡ true → (inside e c ≡ nothing) ⊎ IsSetItem s e (inside e c) → Plain (plain_of s) (scalar_in e)
 set_item_plain s c e h (inl bare) = absurd (lives c e h bare)
-set_item_plain s c e h (inr (v, is, fit, there)) = let spelled = value_element e v is in subst (Plain (plain_of s)) (sym spelled.1) (scalar_reads s spelled.0 v fit spelled.2).1
+set_item_plain s c e h (inr (v, is, fit, there)) = let encodable = value_element e v is in subst (Plain (plain_of s)) (sym encodable.1) (scalar_reads s encodable.0 v fit encodable.2).1
 
 abbrev keyed_plain_item : List (List ℕ) → Shape → Data → Read Data
 keyed_plain_item names s = plain_item (keyed names) (λ e. plain_of s e) (λ ms. plain_of s (object ms))
@@ -237,66 +237,66 @@ keyed_plain_item names s = plain_item (keyed names) (λ e. plain_of s e) (λ ms.
 item_plain : (names : List (List ℕ)) (all : Fields) (b : Bool) (c : Content) (e : List ℕ) → AreRising names → AreRising (names_of all) → list_all (λ n. is_some_scalar (shape_at n all)) names ≡ true → HasKeys names all e c
     → AllPlain all c → Plain (keyed_plain_item names (struct_of all b)) (option_map (λ ms. object (print_item (struct_of all b) c ms)) (printing.keys_in e))
 item_plain names all b c e rise fields_rise scalars (ks, is, fit, top, none, bare) plain =
-    let spelled = key_element e ks is in
-    let ms = spelled.0 in
+    let encodable = key_element e ks is in
+    let ms = encodable.0 in
     let printed = print_fields all c ms in
-    let keys = keys_fit names all ms ks spelled.2 fit in
+    let keys = keys_fit names all ms ks encodable.2 fit in
     let found = keys_found names all ms printed rise keys (λ n t. fields_keep all c ms n (bare n t)) in
     let at = all_at all all fields_rise (λ k t. refl) in
     let members = members_plain (λ k e. plain_of_field all k e) printed (fields_plain all all c ms at plain (keys_plain names all ms scalars keys)) in
-    subst (λ o. Plain (keyed_plain_item names (struct_of all b)) (option_map (λ ms. object (print_item (struct_of all b) c ms)) o)) (sym spelled.1)
+    subst (λ o. Plain (keyed_plain_item names (struct_of all b)) (option_map (λ ms. object (print_item (struct_of all b) c ms)) o)) (sym encodable.1)
     (ap (λ t. cond t (plain_of (struct_of all b) (object printed)) (Err (KeyFieldMissing, []))) (keys_there names all ms printed keys found) ∙ ap (below [] object) members)
 
 -- ---- the law
 
 mutual
-  plain_back : (s : Shape) (c : Content) → is_well_formed s ≡ true → IsPlaced s c → Plain (plain_of s) (print s c)
+  plain_back : (s : Shape) (c : Content) → is_well_formed s ≡ true → IsWellTyped s c → Plain (plain_of s) (print s c)
   plain_back text c lawful (inl none) = at_none text c none
-  plain_back text c lawful (inr (s, is)) = at_value text c (standing.text s) (string s) is refl refl
+  plain_back text c lawful (inr (s, is)) = at_value text c (leaf_value.text s) (string s) is refl refl
   plain_back whole c lawful (inl none) = at_none whole c none
   plain_back whole c lawful (inr (n, within, is)) =
-      at_value whole c (standing.whole n) (number (of_integer n)) is refl (ap (λ o. below [] (λ m. number (of_integer n)) (some_or WrongType o)) (within_is n within))
+      at_value whole c (leaf_value.whole n) (number (of_integer n)) is refl (ap (λ o. below [] (λ m. number (of_integer n)) (some_or WrongType o)) (within_is n within))
   plain_back truth c lawful (inl none) = at_none truth c none
-  plain_back truth c lawful (inr (b, is)) = at_value truth c (standing.truth b) (boolean b) is refl refl
-  plain_back (struct_of all true) c lawful placed = at_atomic (struct_of all true) c (at_none (struct_of all true) c) placed
-  plain_back (struct_of all false) c lawful placed =
+  plain_back truth c lawful (inr (b, is)) = at_value truth c (leaf_value.truth b) (boolean b) is refl refl
+  plain_back (struct_of all true) c lawful well_typed = at_atomic (struct_of all true) c (at_none (struct_of all true) c) well_typed
+  plain_back (struct_of all false) c lawful well_typed =
       let rise = ascend_rising (names_of all) (first_so (ascend (names_of all)) (are_well_formed all) lawful) in
       object_plain (λ k e. plain_of_field all k e) (struct_of all false) (λ xs. refl) (print_fields all c no_members)
-      (fields_plain all all c no_members (all_at all all rise (λ k t. refl)) (fields_back all c (second_so (ascend (names_of all)) (are_well_formed all) lawful) placed.1) tt)
-  plain_back (map_of s true) c lawful placed = at_atomic (map_of s true) c (at_none (map_of s true) c) placed
-  plain_back (map_of s false) c lawful placed =
+      (fields_plain all all c no_members (all_at all all rise (λ k t. refl)) (fields_back all c (second_so (ascend (names_of all)) (are_well_formed all) lawful) well_typed.1) tt)
+  plain_back (map_of s true) c lawful well_typed = at_atomic (map_of s true) c (at_none (map_of s true) c) well_typed
+  plain_back (map_of s false) c lawful well_typed =
       object_plain (λ k e. plain_of s e) (map_of s false) (λ xs. refl) (each_member (λ e. print s (inside e c)) (heads c) no_members)
-      (each_plain (λ k e. plain_of s e) (λ e. print s (inside e c)) (λ e k. any_member s (print s (inside e c)) (plain_back s (inside e c) lawful (placed.1 e)) k) (heads c) no_members tt)
-  plain_back (list_of s atomic) c lawful placed = at_atomic (list_of s atomic) c (at_none (list_of s atomic) c) placed
-  plain_back (list_of s set) c lawful placed =
+      (each_plain (λ k e. plain_of s e) (λ e. print s (inside e c)) (λ e k. any_member s (print s (inside e c)) (plain_back s (inside e c) lawful (well_typed.1 e)) k) (heads c) no_members tt)
+  plain_back (list_of s atomic) c lawful well_typed = at_atomic (list_of s atomic) c (at_none (list_of s atomic) c) well_typed
+  plain_back (list_of s set) c lawful well_typed =
       array_plain (plain_of s) (list_of s set) (λ xs. refl) (each_item scalar_in (heads c))
-      (each_item_plain (plain_of s) scalar_in (heads c) (every (λ e. Plain (plain_of s) (scalar_in e)) (heads c) (λ e h. set_item_plain s c e h (placed.1 e))))
-  plain_back (list_of s (keyed names)) c lawful placed =
+      (each_item_plain (plain_of s) scalar_in (heads c) (every (λ e. Plain (plain_of s) (scalar_in e)) (heads c) (λ e h. set_item_plain s c e h (well_typed.1 e))))
+  plain_back (list_of s (keyed names)) c lawful well_typed =
       let pr = λ (e : List ℕ). option_map (λ ms. object (print_item s (inside e c) ms)) (printing.keys_in e) in
       array_plain (keyed_plain_item names s) (list_of s (keyed names)) (λ xs. refl) (each_item pr (heads c))
-      (each_item_plain (keyed_plain_item names s) pr (heads c) (every (λ e. Plain (keyed_plain_item names s) (pr e)) (heads c) (λ e h. item_back names s c lawful e h (placed.1 e))))
+      (each_item_plain (keyed_plain_item names s) pr (heads c) (every (λ e. Plain (keyed_plain_item names s) (pr e)) (heads c) (λ e h. item_back names s c lawful e h (well_typed.1 e))))
 
   item_back : (names : List (List ℕ)) (s : Shape) (c : Content) → is_well_formed (list_of s (keyed names)) ≡ true → (e : List ℕ) → list_any (bytes_eq e) (heads c) ≡ true → (inside e c ≡ nothing) ⊎ IsItem names s e (inside e c)
       → Plain (keyed_plain_item names s) (option_map (λ ms. object (print_item s (inside e c) ms)) (printing.keys_in e))
   item_back names s c lawful e h (inl bare) = absurd (lives c e h bare)
-  item_back names text c lawful e h (inr placed) = absurd placed
-  item_back names whole c lawful e h (inr placed) = absurd placed
-  item_back names truth c lawful e h (inr placed) = absurd placed
-  item_back names (map_of s b) c lawful e h (inr placed) = absurd placed
-  item_back names (list_of s kind) c lawful e h (inr placed) = absurd placed
-  item_back names (struct_of all b) c lawful e h (inr placed) =
+  item_back names text c lawful e h (inr well_typed) = absurd well_typed
+  item_back names whole c lawful e h (inr well_typed) = absurd well_typed
+  item_back names truth c lawful e h (inr well_typed) = absurd well_typed
+  item_back names (map_of s b) c lawful e h (inr well_typed) = absurd well_typed
+  item_back names (list_of s kind) c lawful e h (inr well_typed) = absurd well_typed
+  item_back names (struct_of all b) c lawful e h (inr well_typed) =
       let of_list = first_so (item_is_lawful (keyed names) (struct_of all b)) (is_well_formed (struct_of all b)) lawful in
       let of_struct = second_so (item_is_lawful (keyed names) (struct_of all b)) (is_well_formed (struct_of all b)) lawful in
       let named = first_so (is_some_name names && ascend names) (has_keys names (struct_of all b)) of_list in
       let scalars = second_so (is_some_name names && ascend names) (has_keys names (struct_of all b)) of_list in
       item_plain names all b (inside e c) e (ascend_rising names (second_so (is_some_name names) (ascend names) named))
-      (ascend_rising (names_of all) (first_so (ascend (names_of all)) (are_well_formed all) of_struct)) (and_parts _ _ scalars).1 placed.0
-      (fields_back all (inside e c) (second_so (ascend (names_of all)) (are_well_formed all) of_struct) placed.1)
+      (ascend_rising (names_of all) (first_so (ascend (names_of all)) (are_well_formed all) of_struct)) (and_parts _ _ scalars).1 well_typed.0
+      (fields_back all (inside e c) (second_so (ascend (names_of all)) (are_well_formed all) of_struct) well_typed.1)
 
-  fields_back : (fs : Fields) (c : Content) → are_well_formed fs ≡ true → ArePlaced fs c → AllPlain fs c
-  fields_back no_fields c lawful placed = tt
-  fields_back (field f s more) c lawful placed =
-      (plain_back s (inside (name_text f) c) (first_so (is_well_formed s) (are_well_formed more) lawful) placed.0, fields_back more c (second_so (is_well_formed s) (are_well_formed more) lawful) placed.1)
+  fields_back : (fs : Fields) (c : Content) → are_well_formed fs ≡ true → AreWellTyped fs c → AllPlain fs c
+  fields_back no_fields c lawful well_typed = tt
+  fields_back (field f s more) c lawful well_typed =
+      (plain_back s (inside (name_text f) c) (first_so (is_well_formed s) (are_well_formed more) lawful) well_typed.0, fields_back more c (second_so (is_well_formed s) (are_well_formed more) lawful) well_typed.1)
 
-pub printed_plain : (s : Shape) (c : Content) (d : Data) → is_well_formed s ≡ true → IsPlaced s c → print s c ≡ Some d → plain_of s d ≡ Ok d
-printed_plain s c d lawful placed is = subst (Plain (plain_of s)) is (plain_back s c lawful placed)
+pub printed_plain : (s : Shape) (c : Content) (d : Data) → is_well_formed s ≡ true → IsWellTyped s c → print s c ≡ Some d → plain_of s d ≡ Ok d
+printed_plain s c d lawful well_typed is = subst (Plain (plain_of s)) is (plain_back s c lawful well_typed)

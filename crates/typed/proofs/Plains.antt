@@ -14,9 +14,9 @@ use Rattle.serde_json.specs.declared.value.Value.{Value}
 use Rattle.schema.specs.Shape.{shape, fields_in}
 use Rattle.schema.specs.declared.schema.Schema.{Schema}
 use Rattle.typed.specs.declared.fault.ReadFault.{ReadFault}
-use Rattle.typed.specs.Faults.{Read, Tells, fault_in, below, and_then, shown_name, shown_place}
+use Rattle.typed.specs.Faults.{Read, ReportsFault, fault_in, below, and_then, shown_name, shown_place}
 use Rattle.typed.specs.Reading.{is_null, plain_members, plain_items, plain_of, plain_of_field}
-use Rattle.typed.proofs.Faults.{tells-and_then, tells-within}
+use Rattle.typed.proofs.Faults.{reports-and_then, reports-within}
 
 abbrev pub Entry : Type 0
 Entry = String Global × Value
@@ -97,8 +97,8 @@ module _ (inner : List ℕ → Data → Read Data) (done : Members) (it : List E
         longer (Ok ms) = ap Ok (members_after-after done (member k d no_members) ms)
         longer (Err f) = refl
 
-    pub failed : (f : ReadFault) → Tells f (fault_in (below (shown_name k) (λ x. x) (inner k (view e.1)))) → Tells f (fault_in whole)
-    failed f h = subst (λ r. Tells f (fault_in r)) there (tells-within f (members_after done) _ (tells-and_then f _ _ h))
+    pub failed : (f : ReadFault) → ReportsFault f (fault_in (below (shown_name k) (λ x. x) (inner k (view e.1)))) → ReportsFault f (fault_in whole)
+    failed f h = subst (λ r. ReportsFault f (fault_in r)) there (reports-within f (members_after done) _ (reports-and_then f _ _ h))
 
 module _ (it : List Entry) (e : Entry) (left : List Entry) (steps : it ≡ e ∷ left) (sorted : IsStrictlySortedBy string_cmp (keys_of it)) where
   sorted_it : IsStrictlySortedBy string_cmp (keys_of (e ∷ left))
@@ -157,8 +157,8 @@ module _ (inner : Data → Read Data) (done : List Data) (all : List Value) (i :
         longer (Ok ds) = ap Ok (items_after-push done d ds)
         longer (Err f) = refl
 
-    pub items_failed : (f : ReadFault) → Tells f (fault_in (below (shown_place i) (λ x. x) (inner (view v)))) → Tells f (fault_in whole)
-    items_failed f h = subst (λ r. Tells f (fault_in r)) items_there (tells-within f (items_after done) _ (tells-and_then f _ _ h))
+    pub items_failed : (f : ReadFault) → ReportsFault f (fault_in (below (shown_place i) (λ x. x) (inner (view v)))) → ReportsFault f (fault_in whole)
+    items_failed f h = subst (λ r. ReportsFault f (fault_in r)) items_there (reports-within f (items_after done) _ (reports-and_then f _ _ h))
 
 pub items_ended : (inner : Data → Read Data) (done : List Data) (all : List Value) (i : ℕ) (whole : Read Items) → drop i all ≡ [] → below [] (items_after done) (plain_items inner i (items_view (drop i all))) ≡ whole → whole ≡ Ok (items_of done)
 items_ended inner done all i whole none kept = sym kept ∙ ap (λ l. below [] (items_after done) (plain_items inner i (items_view l))) none ∙ ap Ok (items_after-none done)

@@ -15,7 +15,7 @@ use Rattle.serde_json.specs.Find.{of_integer, as_i64, get_member}
 use Rattle.serde_json.specs.Written.{compact_text}
 use Rattle.fieldpath.specs.Elements.{has_prefix, name_text, key_text, scalar_text, set_item_text, list_item_text, field_name}
 use Rattle.pathmap.specs.Contents.{Content, nothing, here, under, over}
-use Rattle.pathmap.specs.Contents as standing
+use Rattle.pathmap.specs.Contents as leaf_value
 use Rattle.pathmap.specs.Insides.{inside, heads}
 use Rattle.pathmap.proofs.Contents.{same, get-nothing, over-nothing}
 use Rattle.pathmap.proofs.Levels.{get-here-top}
@@ -24,7 +24,7 @@ use Rattle.schema.specs.Lawful.{names_of, item_is_lawful, has_keys, is_some_name
 use Rattle.schema.specs.Shape.{atomic, set, keyed, Shape, text, whole, truth, struct_of, map_of, list_of, Fields, no_fields, field}
 use Rattle.typed.specs.declared.fault.Cause.TheVariants.{WrongType, DuplicateItem, KeyFieldMissing}
 use Rattle.typed.specs.Faults.{Read, below, and_then, some_or, shown_place}
-use Rattle.typed.specs.Placed.{IsWithin, IsAtomic, IsBelow, is_field, IsSetItem, HasKeys, IsItem, ArePlaced, ReadsBack, RoundTrip}
+use Rattle.typed.specs.WellTyped.{IsWithin, IsAtomic, IsBelow, is_field, IsSetItem, HasKeys, IsItem, AreWellTyped, ReadsBack, RoundTrip}
 use Rattle.typed.specs.Printing.{value_at, value_of, object_or_none, array_or_none, with_member, with_named, with_item, each_member, each_item, scalar_in, print, print_item, print_fields}
 use Rattle.typed.specs.Printing as printing
 use Rattle.typed.specs.Reading.{is_null, plain_of, leaf, joined, members_at, marked, one_item, items_at, named_item, set_item, keyed_item, beside_keys, keys_in, content_of, content_of_item, content_of_field}
@@ -153,7 +153,7 @@ each_read inner pr c gave (e ∷ es) ms d rise named free h =
 
 -- the item that is printed for e reads as e, and as what stands there
 abbrev Reads : (Data → Read (List ℕ × Content)) → (List ℕ → Option Data) → Content → List ℕ → Type 0
-Reads inner pr c e = (d : Data) × (x : Content) × (pr e ≡ Some d) × (inner d ≡ Ok (e, x)) × (over (here standing.mark) x ≡ inside e c)
+Reads inner pr c e = (d : Data) × (x : Content) × (pr e ≡ Some d) × (inner d ≡ Ok (e, x)) × (over (here leaf_value.mark) x ≡ inside e c)
 
 abbrev AreFresh : List (List ℕ) → List (List ℕ) → Type 0
 AreFresh seen es = Every (λ e. list_any (bytes_eq e) seen ≡ false) es
@@ -188,11 +188,11 @@ items_read inner pr c (e ∷ es) i seen rise reads fresh =
 at_nothing : (s : Shape) (c : Content) → c ≡ nothing → ReadsBack s (value_at c) c
 at_nothing s c none = subst (λ o. ReadsBack s o c) (sym (ap value_at none ∙ ap (option_and_then value_of) (get-nothing []))) none
 
-at_here : (s : Shape) (c : Content) (v : standing.Standing) (d : Data) → c ≡ here v → value_of v ≡ Some d → is_null d ≡ false → content_of s d ≡ Ok (here v) → ReadsBack s (value_at c) c
+at_here : (s : Shape) (c : Content) (v : leaf_value.LeafValue) (d : Data) → c ≡ here v → value_of v ≡ Some d → is_null d ≡ false → content_of s d ≡ Ok (here v) → ReadsBack s (value_at c) c
 at_here s c v d is value not_null reads =
     subst (λ o. ReadsBack s o c) (sym (ap value_at is ∙ ap (option_and_then value_of) (get-here-top v) ∙ value)) (not_null, reads ∙ ap Ok (sym is))
 
-pub leaf_is : (d : Data) → (leaf d ≡ nothing) ⊎ (leaf d ≡ here (standing.plain (compact_text d)))
+pub leaf_is : (d : Data) → (leaf d ≡ nothing) ⊎ (leaf d ≡ here (leaf_value.plain (compact_text d)))
 leaf_is null = inr refl
 leaf_is (boolean b) = inr refl
 leaf_is (number n) = inr refl
@@ -214,9 +214,9 @@ atomic_back s c not_null is_leaf (inr (d, plain, reads, is)) = by_leaf (leaf_is 
     some (array ds) h = refl
     some (object ms) h = refl
 
-    by_leaf : (leaf d ≡ nothing) ⊎ (leaf d ≡ here (standing.plain (compact_text d))) → ReadsBack s (value_at c) c
+    by_leaf : (leaf d ≡ nothing) ⊎ (leaf d ≡ here (leaf_value.plain (compact_text d))) → ReadsBack s (value_at c) c
     by_leaf (inl none) = at_nothing s c (is ∙ none)
-    by_leaf (inr there) = at_here s c (standing.plain (compact_text d)) d (is ∙ there) reads (some d plain) (is_leaf d ∙ ap (below [] leaf) plain ∙ ap Ok there)
+    by_leaf (inr there) = at_here s c (leaf_value.plain (compact_text d)) d (is ∙ there) reads (some d plain) (is_leaf d ∙ ap (below [] leaf) plain ∙ ap Ok there)
 
 -- ---- objects and arrays of what reads
 
@@ -236,18 +236,18 @@ lives c e h bare = true≢false (sym h ∙ heads-inside c e ∙ ap has_path bare
 set_reads : (s : Shape) (c : Content) (e : List ℕ) → IsSetItem s e (inside e c) → Reads (set_item (plain_of s)) scalar_in c e
 unfolding scalar_text
 set_reads s c e (v, is, fit, there) =
-    let spelled = value_element e v is in
-    let d = spelled.0 in (
+    let encodable = value_element e v is in
+    let d = encodable.0 in (
       d,
       nothing,
-      spelled.1,
-      ap (λ r. and_then r (λ x. named_item (set_item_text x) nothing)) (scalar_reads s d v fit spelled.2).1
-          ∙ ap (λ o. named_item (option_map (λ w. scalar_text d) o) nothing) spelled.2 ∙ ap (λ t. Ok (t, nothing)) (ap (λ t. 118 ∷ 58 ∷ t) (sym (scalar_same d v spelled.2)) ∙ spelled.3),
-      over-nothing (here standing.mark) ∙ sym there,
+      encodable.1,
+      ap (λ r. and_then r (λ x. named_item (set_item_text x) nothing)) (scalar_reads s d v fit encodable.2).1
+          ∙ ap (λ o. named_item (option_map (λ w. scalar_text d) o) nothing) encodable.2 ∙ ap (λ t. Ok (t, nothing)) (ap (λ t. 118 ∷ 58 ∷ t) (sym (scalar_same d v encodable.2)) ∙ encodable.3),
+      over-nothing (here leaf_value.mark) ∙ sym there,
     )
 
 set_each : (s : Shape) (c : Content) → ((e : List ℕ) → (inside e c ≡ nothing) ⊎ IsSetItem s e (inside e c)) → (e : List ℕ) → list_any (bytes_eq e) (heads c) ≡ true → Reads (set_item (plain_of s)) scalar_in c e
-set_each s c placed e h = by_case (placed e)
+set_each s c well_typed e h = by_case (well_typed e)
   where
     by_case : (inside e c ≡ nothing) ⊎ IsSetItem s e (inside e c) → Reads (set_item (plain_of s)) scalar_in c e
     by_case (inl bare) = absurd (lives c e h bare)
@@ -295,10 +295,10 @@ item_reads : (names : List (List ℕ)) (all : Fields) (is_atomic : Bool) (c : Co
 unfolding key_text
 item_reads names all is_atomic c e rise fields_rise (ks, is, fit, top, none, bare) back =
     let below_e = inside e c in
-    let spelled = key_element e ks is in
-    let ms = spelled.0 in
+    let encodable = key_element e ks is in
+    let ms = encodable.0 in
     let printed = print_fields all below_e ms in
-    let keys = keys_fit names all ms ks spelled.2 fit in
+    let keys = keys_fit names all ms ks encodable.2 fit in
     let found = keys_found names all ms printed rise keys (λ n t. fields_keep all below_e ms n (bare n t)) in
     let fields_found = all_found all all fields_rise (λ k d t. refl) in
     let read_back = with_parts (elements (names_of all)) below_e nothing in
@@ -306,12 +306,12 @@ item_reads names all is_atomic c e rise fields_rise (ks, is, fit, top, none, bar
     (keys_read names all names ms (λ n t. t) keys) in (
       object printed,
       with_parts (elements (names_of all)) below_e nothing,
-      ap (option_map (λ xs. object (print_item (struct_of all is_atomic) below_e xs))) spelled.1,
+      ap (option_map (λ xs. object (print_item (struct_of all is_atomic) below_e xs))) encodable.1,
       ap (λ b. cond b (and_then (members_at (beside_keys names (λ k e. content_of_field all k e)) printed) (named_item (list_item_text (object (keys_in names printed))))) (Err (KeyFieldMissing, []))) (keys_there names all ms printed keys found)
           ∙ ap (λ r. and_then r (named_item (list_item_text (object (keys_in names printed))))) reads
           ∙ ap (λ m. named_item (list_item_text (object m)) read_back) (keys_same names all ms printed rise keys found)
-          ∙ ap (λ o. named_item (option_map (λ x. 107 ∷ 58 ∷ compact_text (object ms)) o) read_back) spelled.4
-          ∙ ap (λ t. Ok (t, read_back)) (sym (keys_text ms ks spelled.2) ∙ spelled.3),
+          ∙ ap (λ o. named_item (option_map (λ x. 107 ∷ 58 ∷ compact_text (object ms)) o) read_back) encodable.4
+          ∙ ap (λ t. Ok (t, read_back)) (sym (keys_text ms ks encodable.2) ∙ encodable.3),
       marked_parts-all (elements (names_of all)) below_e top (is_all all below_e none),
     )
 
@@ -320,26 +320,26 @@ item_reads names all is_atomic c e rise fields_rise (ks, is, fit, top, none, bar
 -- an object of named elements, each of which reads back
 map_back : (s : Shape) (c : Content) → IsBelow (has_prefix 102) c → ((e : List ℕ) → ReadsBack s (print s (inside e c)) (inside e c))
     → ReadsBack (map_of s false) (object_or_none (each_member (λ e. print s (inside e c)) (heads c) no_members)) c
-map_back s c placed back =
+map_back s c well_typed back =
     object_back (map_of s false) (λ k e. content_of s e) (each_member (λ e. print s (inside e c)) (heads c) no_members) c (λ xs. refl)
     (each_read (λ k e. content_of s e) (λ e. print s (inside e c)) c (λ e k is. gave_of s (content_of s) (print s (inside e c)) (inside e c) (λ d. refl) (back e)) (heads c) no_members nothing (heads_rise c)
     (every IsName (heads c) (λ e h. by_prefix e h (has_prefix 102 e) refl)) (all_free (heads c)) refl
-    ∙ ap Ok (with_parts-all (heads c) c placed.0 (heads-all c)))
+    ∙ ap Ok (with_parts-all (heads c) c well_typed.0 (heads-all c)))
   where
     by_prefix : (e : List ℕ) → list_any (bytes_eq e) (heads c) ≡ true → (b : Bool) → has_prefix 102 e ≡ b → IsName e
     by_prefix e h true t = prefix_name e t
-    by_prefix e h false t = absurd (lives c e h (same (inside e c) nothing (λ q. get-inside e c q ∙ placed.1 e q t ∙ sym (get-nothing q))))
+    by_prefix e h false t = absurd (lives c e h (same (inside e c) nothing (λ q. get-inside e c q ∙ well_typed.1 e q t ∙ sym (get-nothing q))))
 
 struct_back : (all : Fields) (c : Content) → AreRising (names_of all) → IsBelow (is_field all) c → Back all c → ReadsBack (struct_of all false) (object_or_none (print_fields all c no_members)) c
-struct_back all c rise placed back =
+struct_back all c rise well_typed back =
     object_back (struct_of all false) (λ k e. content_of_field all k e) (print_fields all c no_members) c (λ xs. refl)
     (fields_read (λ k e. content_of_field all k e) c all no_members nothing rise (gave_all all all c (all_found all all rise (λ k d t. refl)) back) (all_new all c) refl
-    ∙ ap Ok (with_parts-all (elements (names_of all)) c placed.0 (is_all all c placed.1)))
+    ∙ ap Ok (with_parts-all (elements (names_of all)) c well_typed.0 (is_all all c well_typed.1)))
 
 set_back : (s : Shape) (c : Content) → (fin.get c [] ≡ None) → ((e : List ℕ) → (inside e c ≡ nothing) ⊎ IsSetItem s e (inside e c)) → ReadsBack (list_of s set) (array_or_none (each_item scalar_in (heads c))) c
-set_back s c top placed =
+set_back s c top well_typed =
     array_back (list_of s set) (set_item (plain_of s)) (each_item scalar_in (heads c)) c (λ xs. refl)
-    (items_read (set_item (plain_of s)) scalar_in c (heads c) 0 [] (heads_rise c) (every (Reads (set_item (plain_of s)) scalar_in c) (heads c) (set_each s c placed)) (all_fresh (heads c))
+    (items_read (set_item (plain_of s)) scalar_in c (heads c) 0 [] (heads_rise c) (every (Reads (set_item (plain_of s)) scalar_in c) (heads c) (set_each s c well_typed)) (all_fresh (heads c))
     ∙ ap Ok (parts-all (heads c) c top (heads-all c)))
 
 list_back : (names : List (List ℕ)) (s : Shape) (c : Content) → fin.get c [] ≡ None
@@ -364,36 +364,36 @@ within_is (negsuc m) lt = refl
 mutual
   pub round : RoundTrip
   round text c lawful (inl none) = at_nothing text c none
-  round text c lawful (inr (s, is)) = at_here text c (standing.text s) (string s) is refl refl refl
+  round text c lawful (inr (s, is)) = at_here text c (leaf_value.text s) (string s) is refl refl refl
   round whole c lawful (inl none) = at_nothing whole c none
-  round whole c lawful (inr (n, within, is)) = at_here whole c (standing.whole n) (number (of_integer n)) is refl refl (ap (λ o. below [] (λ m. here (standing.whole m)) (some_or WrongType o)) (within_is n within))
+  round whole c lawful (inr (n, within, is)) = at_here whole c (leaf_value.whole n) (number (of_integer n)) is refl refl (ap (λ o. below [] (λ m. here (leaf_value.whole m)) (some_or WrongType o)) (within_is n within))
   round truth c lawful (inl none) = at_nothing truth c none
-  round truth c lawful (inr (b, is)) = at_here truth c (standing.truth b) (boolean b) is refl refl refl
-  round (struct_of all true) c lawful placed = atomic_back (struct_of all true) c not_read (λ d. refl) placed
-  round (struct_of all false) c lawful placed =
-      struct_back all c (ascend_rising (names_of all) (first_so (ascend (names_of all)) (are_well_formed all) lawful)) placed.0 (round_fields all c (second_so (ascend (names_of all)) (are_well_formed all) lawful) placed.1)
-  round (map_of s true) c lawful placed = atomic_back (map_of s true) c not_read (λ d. refl) placed
-  round (map_of s false) c lawful placed = map_back s c placed.0 (λ e. round s (inside e c) lawful (placed.1 e))
-  round (list_of s atomic) c lawful placed = atomic_back (list_of s atomic) c not_read (λ d. refl) placed
-  round (list_of s set) c lawful placed = set_back s c placed.0 placed.1
-  round (list_of s (keyed names)) c lawful placed = list_back names s c placed.0 (λ e h. round_item names s c lawful e h (placed.1 e))
+  round truth c lawful (inr (b, is)) = at_here truth c (leaf_value.truth b) (boolean b) is refl refl refl
+  round (struct_of all true) c lawful well_typed = atomic_back (struct_of all true) c not_read (λ d. refl) well_typed
+  round (struct_of all false) c lawful well_typed =
+      struct_back all c (ascend_rising (names_of all) (first_so (ascend (names_of all)) (are_well_formed all) lawful)) well_typed.0 (round_fields all c (second_so (ascend (names_of all)) (are_well_formed all) lawful) well_typed.1)
+  round (map_of s true) c lawful well_typed = atomic_back (map_of s true) c not_read (λ d. refl) well_typed
+  round (map_of s false) c lawful well_typed = map_back s c well_typed.0 (λ e. round s (inside e c) lawful (well_typed.1 e))
+  round (list_of s atomic) c lawful well_typed = atomic_back (list_of s atomic) c not_read (λ d. refl) well_typed
+  round (list_of s set) c lawful well_typed = set_back s c well_typed.0 well_typed.1
+  round (list_of s (keyed names)) c lawful well_typed = list_back names s c well_typed.0 (λ e h. round_item names s c lawful e h (well_typed.1 e))
 
   round_item : (names : List (List ℕ)) (s : Shape) (c : Content) → is_well_formed (list_of s (keyed names)) ≡ true → (e : List ℕ) → list_any (bytes_eq e) (heads c) ≡ true
       → (inside e c ≡ nothing) ⊎ IsItem names s e (inside e c) → Reads (keyed_item names (λ ms. content_of_item s names ms)) (λ g. option_map (λ ms. object (print_item s (inside g c) ms)) (printing.keys_in g)) c e
   round_item names s c lawful e h (inl bare) = absurd (lives c e h bare)
-  round_item names text c lawful e h (inr placed) = absurd placed
-  round_item names whole c lawful e h (inr placed) = absurd placed
-  round_item names truth c lawful e h (inr placed) = absurd placed
-  round_item names (map_of s b) c lawful e h (inr placed) = absurd placed
-  round_item names (list_of s kind) c lawful e h (inr placed) = absurd placed
-  round_item names (struct_of all b) c lawful e h (inr placed) =
+  round_item names text c lawful e h (inr well_typed) = absurd well_typed
+  round_item names whole c lawful e h (inr well_typed) = absurd well_typed
+  round_item names truth c lawful e h (inr well_typed) = absurd well_typed
+  round_item names (map_of s b) c lawful e h (inr well_typed) = absurd well_typed
+  round_item names (list_of s kind) c lawful e h (inr well_typed) = absurd well_typed
+  round_item names (struct_of all b) c lawful e h (inr well_typed) =
       let of_list = first_so (item_is_lawful (keyed names) (struct_of all b)) (is_well_formed (struct_of all b)) lawful in
       let of_struct = second_so (item_is_lawful (keyed names) (struct_of all b)) (is_well_formed (struct_of all b)) lawful in
       let names_rise = second_so (is_some_name names) (ascend names) (first_so (is_some_name names && ascend names) (has_keys names (struct_of all b)) of_list) in
-      item_reads names all b c e (ascend_rising names names_rise) (ascend_rising (names_of all) (first_so (ascend (names_of all)) (are_well_formed all) of_struct)) placed.0
-      (round_fields all (inside e c) (second_so (ascend (names_of all)) (are_well_formed all) of_struct) placed.1)
+      item_reads names all b c e (ascend_rising names names_rise) (ascend_rising (names_of all) (first_so (ascend (names_of all)) (are_well_formed all) of_struct)) well_typed.0
+      (round_fields all (inside e c) (second_so (ascend (names_of all)) (are_well_formed all) of_struct) well_typed.1)
 
-  round_fields : (fs : Fields) (c : Content) → are_well_formed fs ≡ true → ArePlaced fs c → Back fs c
-  round_fields no_fields c lawful placed = tt
-  round_fields (field f s more) c lawful placed =
-      (round s (inside (name_text f) c) (first_so (is_well_formed s) (are_well_formed more) lawful) placed.0, round_fields more c (second_so (is_well_formed s) (are_well_formed more) lawful) placed.1)
+  round_fields : (fs : Fields) (c : Content) → are_well_formed fs ≡ true → AreWellTyped fs c → Back fs c
+  round_fields no_fields c lawful well_typed = tt
+  round_fields (field f s more) c lawful well_typed =
+      (round s (inside (name_text f) c) (first_so (is_well_formed s) (are_well_formed more) lawful) well_typed.0, round_fields more c (second_so (is_well_formed s) (are_well_formed more) lawful) well_typed.1)

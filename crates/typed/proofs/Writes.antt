@@ -9,7 +9,7 @@ use Rattle.pathmap.specs.Contents.{Content}
 use Rattle.pathmap.specs.Insides.{inside}
 use Rattle.schema.specs.Shape.{Shape, Fields, no_fields, field}
 use Rattle.typed.specs.Between.{then_fields, then_member}
-use Rattle.typed.specs.Placed.{ReadsBack}
+use Rattle.typed.specs.WellTyped.{ReadsBack}
 use Rattle.typed.specs.Printing.{array_or_none, each_item, object_or_none, print as printed, with_item}
 use Rattle.typed.specs.Rows.{IsThere, then_named}
 use Rattle.typed.specs.Writes.{with_fields, with_named_pair, with_pair, with_pairs, with_value, with_items}

@@ -12,10 +12,10 @@ use Rattle.pathmap.specs.Contents.{Content, nothing, plain}
 use Rattle.pathmap.specs.Insides.{inside}
 use Rattle.schema.specs.Place.{place_of}
 use Rattle.schema.specs.Shape.{Shape}
-use Rattle.schema.specs.Steps.{Spot, value_of, step}
+use Rattle.schema.specs.Steps.{TypeRef, value_of, step}
 use Rattle.schema.specs.declared.place.Place.TheVariants.{Leaf}
 use Rattle.typed.specs.Faults.{Read}
-use Rattle.typed.specs.Fitting.{Stands}
+use Rattle.typed.specs.Fitting.{IsPresent}
 use Rattle.typed.specs.Printing.{print}
 use Rattle.typed.specs.Reading.{content_of}
 
@@ -40,19 +40,19 @@ abbrev pub IsNewLeaf : Shape → Shape → PathTexts → Type 0
 IsNewLeaf s t p = (place_of s p ≡ None) × (place_of t p ≡ Some Leaf)
 
 -- where an element leads that was read of its text
-abbrev pub step_read : Spot → Result Element NoElement → Option Spot
-step_read spot (Ok e) = step spot e
-step_read spot (Err n) = None
+abbrev pub step_read : TypeRef → Result Element NoElement → Option TypeRef
+step_read type_ref (Ok e) = step type_ref e
+step_read type_ref (Err n) = None
 
-abbrev pub printed_here : Option Spot → Content → Option Data
+abbrev pub printed_here : Option TypeRef → Content → Option Data
 printed_here (Some (value_of s)) c = print s c
 printed_here _ c = None
 
 -- what is printed of the value at a path, from a spot on
-abbrev pub printed_from : Option Spot → PathTexts → Content → Option Data
-printed_from spot [] c = printed_here spot c
+abbrev pub printed_from : Option TypeRef → PathTexts → Content → Option Data
+printed_from type_ref [] c = printed_here type_ref c
 printed_from None (e ∷ p) c = None
-printed_from (Some spot) (e ∷ p) c = printed_from (step_read spot (read_element e)) p (inside e c)
+printed_from (Some type_ref) (e ∷ p) c = printed_from (step_read type_ref (read_element e)) p (inside e c)
 
 abbrev pub printed_at : Shape → PathTexts → Content → Option Data
 printed_at s = printed_from (Some (value_of s))
@@ -68,7 +68,7 @@ pub record IsCarried (s t : Shape) (c r : Content) : Type 0 where
 
 -- a new leaf is there if something stood at or below it
 abbrev pub LeavesStand : Shape → Shape → Content → Content → Type 0
-LeavesStand s t c r = (p q : PathTexts) → IsNewLeaf s t p → Stands c (p ++ q) → Stands r p
+LeavesStand s t c r = (p q : PathTexts) → IsNewLeaf s t p → IsPresent c (p ++ q) → IsPresent r p
 
 -- that is all there is to say of it
 abbrev pub CarriedIsOne : Type 0

@@ -51,11 +51,11 @@ abbrev pub fault_below : List ℕ → Fault → Fault
 fault_below s e = (e.0, s ++ e.1)
 
 -- What a call tells is this fault, unless memory ran out.
-abbrev pub Tells : ReadFault → Option Fault → Type 0
-Tells faults.Memory fault = Unit {0}
-Tells (faults.Shape cause path) fault = fault ≡ Some (cause, string_bytes path)
+abbrev pub ReportsFault : ReadFault → Option Fault → Type 0
+ReportsFault faults.Memory fault = Unit {0}
+ReportsFault (faults.Shape cause path) fault = fault ≡ Some (cause, string_bytes path)
 
 -- What a call returned, by its view, is what is read, unless memory ran out.
-abbrev pub Gives : {X Y : Type 0} → (X → Y) → Result X ReadFault → Read Y → Type 0
-Gives view (Ok x) read = read ≡ Ok (view x)
-Gives view (Err e) read = Tells e (fault_in read)
+abbrev pub Returns : {X Y : Type 0} → (X → Y) → Result X ReadFault → Read Y → Type 0
+Returns view (Ok x) read = read ≡ Ok (view x)
+Returns view (Err e) read = ReportsFault e (fault_in read)

@@ -3,7 +3,7 @@ pub mod Reading
 pub mod Printing
 pub mod Steps
 pub mod Keyed
-pub mod Placed
+pub mod WellTyped
 pub mod Fitting
 pub mod Between
 pub mod Rows

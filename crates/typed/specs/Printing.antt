@@ -5,17 +5,17 @@ use Rattle.serde_json.specs.Data.{Data, boolean, number, string, array, object, 
 use Rattle.serde_json.specs.Find.{as_object, of_integer}
 use Rattle.serde_json.specs.Read.{read}
 use Rattle.fieldpath.specs.Elements.{field_name, keys_json, name_text, scalar_json}
-use Rattle.pathmap.specs.Contents.{Standing, Content}
-use Rattle.pathmap.specs.Contents as standing
+use Rattle.pathmap.specs.Contents.{LeafValue, Content}
+use Rattle.pathmap.specs.Contents as leaf_value
 use Rattle.pathmap.specs.Insides.{inside, heads}
 use Rattle.schema.specs.Shape.{atomic, set, keyed, Shape, text, whole, truth, struct_of, map_of, list_of, Fields, no_fields, field}
 
-abbrev pub value_of : Standing → Option Data
-value_of (standing.text s) = Some (string s)
-value_of (standing.whole n) = Some (number (of_integer n))
-value_of (standing.truth b) = Some (boolean b)
-value_of (standing.plain s) = read s
-value_of standing.mark = None
+abbrev pub value_of : LeafValue → Option Data
+value_of (leaf_value.text s) = Some (string s)
+value_of (leaf_value.whole n) = Some (number (of_integer n))
+value_of (leaf_value.truth b) = Some (boolean b)
+value_of (leaf_value.plain s) = read s
+value_of leaf_value.mark = None
 
 -- the value at the top
 abbrev pub value_at : Content → Option Data

@@ -10,7 +10,7 @@ use Rattle.serde_json.specs.Find.{get_member, as_null, as_bool, as_number, as_i6
 use Rattle.serde_json.specs.Written.{compact_text}
 use Rattle.fieldpath.specs.Elements.{name_text, set_item_text, list_item_text}
 use Rattle.pathmap.specs.Contents.{Content, nothing, here, under, over}
-use Rattle.pathmap.specs.Contents as standing
+use Rattle.pathmap.specs.Contents as leaf_value
 use Rattle.schema.specs.Shape.{Kind, atomic, set, keyed, Shape, text, whole, truth, struct_of, map_of, list_of, Fields, no_fields, field}
 use Rattle.typed.specs.declared.fault.Cause.TheVariants.{NotAnObject, UnknownField, WrongType, DuplicateItem, KeyFieldMissing}
 use Rattle.typed.specs.Faults.{Read, shown_name, shown_place, below, and_then, some_or}
@@ -86,7 +86,7 @@ abbrev mutual
 abbrev pub leaf : Data → Content
 leaf (object no_members) = nothing
 leaf (array no_items) = nothing
-leaf d = here (standing.plain (compact_text d))
+leaf d = here (leaf_value.plain (compact_text d))
 
 -- ---- the content
 
@@ -110,7 +110,7 @@ members_at inner (member k d ms) = joined (one_member inner k d) (members_at inn
 
 -- an item's content under its element, with its mark
 abbrev pub marked : List ℕ → Content → Content
-marked e c = under e (over (here standing.mark) c)
+marked e c = under e (over (here leaf_value.mark) c)
 
 -- one item more, and what the rest gives beside the elements so far
 abbrev pub one_item : List (List ℕ) → Read (List ℕ × Content) → (List (List ℕ) → Read Content) → Read Content
@@ -141,9 +141,9 @@ beside_keys names inner k d = if list_any (bytes_eq k) names then below [] (λ c
 
 abbrev mutual
   pub content_of : Shape → Data → Read Content
-  content_of text d = below [] (λ s. here (standing.text s)) (text_in d)
-  content_of whole d = below [] (λ n. here (standing.whole n)) (whole_in d)
-  content_of truth d = below [] (λ b. here (standing.truth b)) (truth_in d)
+  content_of text d = below [] (λ s. here (leaf_value.text s)) (text_in d)
+  content_of whole d = below [] (λ n. here (leaf_value.whole n)) (whole_in d)
+  content_of truth d = below [] (λ b. here (leaf_value.truth b)) (truth_in d)
   content_of (struct_of all is_atomic) d =
       if is_atomic then below [] leaf (plain_of (struct_of all is_atomic) d) else and_then (some_or NotAnObject (as_object d)) (members_at (λ k e. content_of_field all k e))
   content_of (map_of s is_atomic) d =

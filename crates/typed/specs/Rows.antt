@@ -7,13 +7,13 @@ use Rattle.serde_json.specs.Written.{compact_text, has_float}
 use Rattle.fieldpath.specs.Elements.{Scalar, name_text, read_element}
 use Rattle.fieldpath.specs.Elements as element
 use Rattle.fieldpath.specs.Scalars.{ascend}
-use Rattle.pathmap.specs.Contents.{Standing, Content, nothing}
-use Rattle.pathmap.specs.Contents as standing
+use Rattle.pathmap.specs.Contents.{LeafValue, Content, nothing}
+use Rattle.pathmap.specs.Contents as leaf_value
 use Rattle.pathmap.specs.Insides.{inside}
 use Rattle.schema.specs.Lawful.{is_well_formed, names_of}
 use Rattle.schema.specs.Shape.{Shape, struct_of, Fields, no_fields, field}
 use Rattle.typed.specs.Between.{then_fields, then_member}
-use Rattle.typed.specs.Placed.{IsPlaced}
+use Rattle.typed.specs.WellTyped.{IsWellTyped}
 use Rattle.typed.specs.Printing.{keys_in, print_item, value_of}
 
 abbrev pub HasNoFloat : Option Data → Type 0
@@ -21,17 +21,17 @@ HasNoFloat None = Unit {0}
 HasNoFloat (Some d) = has_float d ≡ false
 
 -- an atomic value is the compact text of what it spells
-abbrev pub IsCompact : Option Standing → Type 0
-IsCompact (Some (standing.plain s)) = (d : Data) × (read s ≡ Some d) × (s ≡ compact_text d)
+abbrev pub IsCompact : Option LeafValue → Type 0
+IsCompact (Some (leaf_value.plain s)) = (d : Data) × (read s ≡ Some d) × (s ≡ compact_text d)
 IsCompact _ = Unit {0}
 
 -- what can be written as it stands
-abbrev pub IsWritable : Option Standing → Type 0
+abbrev pub IsWritable : Option LeafValue → Type 0
 IsWritable v = HasNoFloat (option_and_then value_of v) × IsCompact v
 
 -- a content of the shape
 abbrev pub Fits : Shape → Content → Type 0
-Fits s c = (is_well_formed s ≡ true) × IsPlaced s c
+Fits s c = (is_well_formed s ≡ true) × IsWellTyped s c
 
 -- something of the shape
 abbrev pub IsThere : Shape → Content → Type 0

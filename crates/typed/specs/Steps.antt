@@ -11,23 +11,23 @@ use Rattle.pathmap.specs.Levels.{has_path}
 use Rattle.pathmap.specs.Maps.{content}
 use Rattle.typed.specs.declared.fault.ReadFault.{ReadFault}
 use Rattle.typed.specs.declared.items.Item.{Item}
-use Rattle.typed.specs.Faults.{Read, Tells, fault_in, below, shown_name, shown_place}
+use Rattle.typed.specs.Faults.{Read, ReportsFault, fault_in, below, shown_name, shown_place}
 use Rattle.typed.specs.Reading.{joined, marked, one_item}
 
 -- the new members have what was read at k, or it is a fault
 abbrev pub PutsMember : List ℕ → Members → Members → Result ⊤ ReadFault → Read Data → Type 0
 PutsMember k old new (Ok x) read = (d : Data) × (read ≡ Ok d) × (new ≡ put k d old)
-PutsMember k old new (Err e) read = Tells e (fault_in (below (shown_name k) (λ d. d) read))
+PutsMember k old new (Err e) read = ReportsFault e (fault_in (below (shown_name k) (λ d. d) read))
 
 -- the new items end in what was read, or it is a fault
 abbrev pub PushesItem : ℕ → List Data → List Data → Result ⊤ ReadFault → Read Data → Type 0
 PushesItem i old new (Ok x) read = (d : Data) × (read ≡ Ok d) × (new ≡ old ++ d ∷ [])
-PushesItem i old new (Err e) read = Tells e (fault_in (below (shown_place i) (λ d. d) read))
+PushesItem i old new (Err e) read = ReportsFault e (fault_in (below (shown_place i) (λ d. d) read))
 
 -- what was read was joined to what stood below, or it is a fault
 abbrev pub Joins : Content → Content → Result ⊤ ReadFault → Read Content → Type 0
 Joins old new (Ok x) read = Ok new ≡ joined (Ok old) read
-Joins old new (Err e) read = Tells e (fault_in read)
+Joins old new (Err e) read = ReportsFault e (fault_in read)
 
 -- nothing stands below this element
 abbrev pub IsFree : List ℕ → Content → Type 0
@@ -49,7 +49,7 @@ AreSeen seen c = (g : List ℕ) → has_path (inside g c) ≡ list_any (bytes_eq
 abbrev pub AddsItem : List (List ℕ) → ℕ → Content → Content → Result ⊤ ReadFault → Read (List ℕ × Content) → Type 0
 AddsItem seen i old new (Ok x) read =
     (e : List ℕ × Content) × (read ≡ Ok e) × (list_any (bytes_eq e.0) seen ≡ false) × (new ≡ over old (marked e.0 e.1)) × AreSeen (e.0 ∷ seen) new
-AddsItem seen i old new (Err f) read = (rest : List (List ℕ) → Read Content) → Tells f (fault_in (one_item seen (below (shown_place i) (λ e. e) read) rest))
+AddsItem seen i old new (Err f) read = (rest : List (List ℕ) → Read Content) → ReportsFault f (fault_in (one_item seen (below (shown_place i) (λ e. e) read) rest))
 
 -- what counts as absent where an atomic value is due
 abbrev pub is_empty : Data → Bool

@@ -8,7 +8,7 @@ ghost use Rattle.pathmap.specs.Maps.{content};
 ghost use Rattle.schema.specs.KeyNames.{names_in};
 ghost use Rattle.schema.specs.Shape.{fields_in, shape, text};
 ghost use Rattle.typed.specs.declared.fault.Cause.TheVariants.{NotAnObject, WrongType};
-ghost use Rattle.typed.specs.Faults.{Fault, Gives, Tells};
+ghost use Rattle.typed.specs.Faults.{Fault, Returns, ReportsFault};
 ghost use Rattle.typed.specs.Keyed.{keyed_members};
 ghost use Rattle.typed.specs.Reading.{beside_keys, content_of, content_of_field, content_of_item, is_null, items_at, keyed_item, members_at};
 ghost use Rattle.typed.specs.Steps.{item_view};
@@ -19,22 +19,22 @@ use crate::items::{Item, add_item, add_member};
 use crate::read::read_map;
 use json::Value;
 use json_texts::{as_array, as_object, as_str, is_null, to_value};
-use pathmap::{Held, PathMap};
+use pathmap::{PathMap, PathValue};
 use schema::{ListKind, Schema};
 use std::alloc::Global;
 
 fn read_text(alloc: Global, value: &Value<'_>) -> Result<PathMap, ReadFault>
-    ensures { Gives content result (content_of text (data_of (value_view value.now))) }
+    ensures { Returns content result (content_of text (data_of (value_view value.now))) }
 {
     match as_str(value) {
-        Some(text) => Ok(PathMap::leaf(alloc, Held::Text(String::from_str(alloc, text)?))),
+        Some(text) => Ok(PathMap::leaf(alloc, PathValue::Text(String::from_str(alloc, text)?))),
         None => Err(wrong(alloc, Cause::WrongType)),
     }
 }
 
 fn read_copy(schema: &Schema, alloc: Global, value: &Value<'_>) -> Result<PathMap, ReadFault>
     requires { is_ordered (value_view value.now) ≡ true }
-    ensures { Gives content result (content_of (shape schema.now) (data_of (value_view value.now))) }
+    ensures { Returns content result (content_of (shape schema.now) (data_of (value_view value.now))) }
 {
     read_map(schema, alloc, &to_value(alloc, value)?)
 }
@@ -42,7 +42,7 @@ fn read_copy(schema: &Schema, alloc: Global, value: &Value<'_>) -> Result<PathMa
 /// Why a value is no item of a map list, where it is no object.
 fn not_an_item(alloc: Global, value: &Value<'_>) -> ReadFault
     requires { is_ordered (value_view value.now) ≡ true }
-    ensures { (fault : Option Fault) → fault ≡ Some (if is_null (data_of (value_view value.now)) then WrongType else NotAnObject, []) → Tells result fault }
+    ensures { (fault : Option Fault) → fault ≡ Some (if is_null (data_of (value_view value.now)) then WrongType else NotAnObject, []) → ReportsFault result fault }
 {
     if is_null(value) {
         wrong(alloc, Cause::WrongType)
@@ -59,7 +59,7 @@ fn read_list(
     items: &[Value<'_>],
 ) -> Result<PathMap, ReadFault>
     requires { items_are_ordered (items_view items.now) ≡ true }
-    ensures { Gives content result
+    ensures { Returns content result
         (items_at (keyed_item (names_in names.now) (λ ms. content_of_item (shape inner.now) (names_in names.now) ms)) 0 [] (items_data (items_view items.now))) }
 {
     let mut map = PathMap::with_room(alloc, items.len())?;
@@ -78,7 +78,7 @@ fn read_item(
     item: &Value<'_>,
 ) -> Result<Item, ReadFault>
     requires { is_ordered (value_view item.now) ≡ true }
-    ensures { Gives item_view result
+    ensures { Returns item_view result
         (keyed_item (names_in names.now) (λ ms. content_of_item (shape inner.now) (names_in names.now) ms) (data_of (value_view item.now))) }
 {
     match as_object(item) {
@@ -95,7 +95,7 @@ fn read_keyed<'a>(
     members: &[(&'a str, Value<'a>)],
 ) -> Result<Item, ReadFault>
     requires { are_ordered (members_view members.now) ≡ true }
-    ensures { Gives item_view result
+    ensures { Returns item_view result
         (keyed_members (names_in names.now) (λ ms. content_of_item (shape inner.now) (names_in names.now) ms) (members_data (members_view members.now))) }
 {
     if !has_keys(names, members) {
@@ -117,7 +117,7 @@ fn read_values<'a>(
     members: &[(&'a str, Value<'a>)],
 ) -> Result<PathMap, ReadFault>
     requires { are_ordered (members_view members.now) ≡ true }
-    ensures { Gives content result
+    ensures { Returns content result
         (members_at (λ k e. content_of (shape inner.now) e) (members_data (members_view members.now))) }
 {
     let mut map = PathMap::with_room(alloc, members.len())?;
@@ -139,7 +139,7 @@ fn read_field(
     value: &Value<'_>,
 ) -> Result<PathMap, ReadFault>
     requires { is_ordered (value_view value.now) ≡ true }
-    ensures { Gives content result (content_of_field (fields_in fields.now) name.now (data_of (value_view value.now))) }
+    ensures { Returns content result (content_of_field (fields_in fields.now) name.now (data_of (value_view value.now))) }
 {
     for (known, inner) in fields {
         if known.as_str() == name {
@@ -157,7 +157,7 @@ fn read_struct<'a>(
     members: &[(&'a str, Value<'a>)],
 ) -> Result<PathMap, ReadFault>
     requires { are_ordered (members_view members.now) ≡ true }
-    ensures { Gives content result
+    ensures { Returns content result
         (members_at (beside_keys (names_in names.now) (λ k e. content_of_field (fields_in fields.now) k e)) (members_data (members_view members.now))) }
 {
     let mut map = PathMap::with_room(alloc, members.len())?;
@@ -179,7 +179,7 @@ pub(crate) fn read_borrowed(
     value: &Value<'_>,
 ) -> Result<PathMap, ReadFault>
     requires { is_ordered (value_view value.now) ≡ true }
-    ensures { Gives content result (content_of (shape schema.now) (data_of (value_view value.now))) }
+    ensures { Returns content result (content_of (shape schema.now) (data_of (value_view value.now))) }
 {
     match schema {
         Schema::Text => read_text(alloc, value),

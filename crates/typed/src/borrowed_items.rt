@@ -10,7 +10,7 @@ ghost use Rattle.fieldpath.specs.Elements.{list_item_text};
 ghost use Rattle.json_texts.specs.InOrder.{data_of, is_ordered, members_are_ordered, members_data};
 ghost use Rattle.pathmap.specs.Maps.{content};
 ghost use Rattle.schema.specs.KeyNames.{names_in};
-ghost use Rattle.typed.specs.Faults.{Gives, fault_in};
+ghost use Rattle.typed.specs.Faults.{Returns, fault_in};
 ghost use Rattle.typed.specs.Reading.{have_keys, is_there, keys_in, named_item, put_some};
 ghost use Rattle.typed.specs.Steps.{item_view};
 
@@ -85,7 +85,7 @@ pub(crate) fn list_item<'a>(
     below: PathMap,
 ) -> Result<Item, ReadFault>
     requires { members_are_ordered (members_in members.now) ≡ true }
-    ensures { Gives item_view result
+    ensures { Returns item_view result
         (named_item (list_item_text (object (keys_in (names_in names.now) (members_data (members_in members.now))))) (content below)) }
 {
     item_of_keys(alloc, key_members(names, alloc, members)?, below)

@@ -1,7 +1,7 @@
 //! What is wrong with a value that is no content, and where. Values are read in `read` and `borrowed`.
 
 ghost use Rattle.std.specs.Prelude.{◌≡◌, ◌++◌, IfOk, [], Option, Some, option_map, string_bytes};
-ghost use Rattle.typed.specs.Faults.{Fault, Tells, fault_below, shown_name, shown_place};
+ghost use Rattle.typed.specs.Faults.{Fault, ReportsFault, fault_below, shown_name, shown_place};
 
 use std::alloc::{AllocError, AllocFailed, Global};
 use std::fmt;
@@ -75,7 +75,7 @@ impl<T: Drop> From<AllocFailed<T>> for ReadFault {
 
 /// A fault of the value itself.
 pub(crate) fn wrong(alloc: Global, cause: Cause) -> ReadFault
-    ensures { (fault : Option Fault) → fault ≡ Some (cause, []) → Tells result fault }
+    ensures { (fault : Option Fault) → fault ≡ Some (cause, []) → ReportsFault result fault }
 {
     ReadFault::Shape(cause, String::new(alloc))
 }
@@ -104,8 +104,8 @@ fn place_before(alloc: Global, place: usize, path: &str) -> Result<String, Alloc
 impl ReadFault {
     /// The fault of a member's value, seen from its object.
     pub(crate) fn in_field(self, alloc: Global, name: &str) -> ReadFault
-        ensures { (fault : Option Fault) → Tells self fault
-            → Tells result (option_map (fault_below (shown_name name.now)) fault) }
+        ensures { (fault : Option Fault) → ReportsFault self fault
+            → ReportsFault result (option_map (fault_below (shown_name name.now)) fault) }
     {
         match self {
             ReadFault::Shape(cause, path) => match name_before(alloc, name, path.as_str()) {
@@ -118,8 +118,8 @@ impl ReadFault {
 
     /// The fault of an item, seen from its list.
     pub(crate) fn in_item(self, alloc: Global, place: usize) -> ReadFault
-        ensures { (fault : Option Fault) → Tells self fault
-            → Tells result (option_map (fault_below (shown_place place)) fault) }
+        ensures { (fault : Option Fault) → ReportsFault self fault
+            → ReportsFault result (option_map (fault_below (shown_place place)) fault) }
     {
         match self {
             ReadFault::Shape(cause, path) => match place_before(alloc, place, path.as_str()) {

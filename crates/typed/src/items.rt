@@ -10,7 +10,7 @@ ghost use Rattle.serde_json.specs.Find.{as_array, as_object, get_member};
 ghost use Rattle.serde_json.specs.View.{items_view, members_view, view};
 ghost use Rattle.schema.specs.KeyNames.{names_in};
 ghost use Rattle.typed.specs.declared.fault.Cause.TheVariants.{KeyFieldMissing, NotAnObject, WrongType};
-ghost use Rattle.typed.specs.Faults.{Gives, Read, and_then, some_or};
+ghost use Rattle.typed.specs.Faults.{Returns, Read, and_then, some_or};
 ghost use Rattle.typed.specs.Reading.{at_field, have_keys, is_there, keys_in, named_item, object_item, put_some};
 ghost use Rattle.typed.specs.Steps.{AddsItem, AreSeen, IsFree, Joins, item_view, unless_key};
 
@@ -31,7 +31,7 @@ pub(crate) struct Item {
 
 /// The members of an object.
 pub(crate) fn object_of(alloc: Global, value: &Value) -> Result<&Map<String, Value>, ReadFault>
-    ensures { Gives (λ m. members_view m.now.entries) result (some_or NotAnObject (as_object (view value.now))) }
+    ensures { Returns (λ m. members_view m.now.entries) result (some_or NotAnObject (as_object (view value.now))) }
 {
     match value.as_object() {
         Some(members) => Ok(members),
@@ -41,7 +41,7 @@ pub(crate) fn object_of(alloc: Global, value: &Value) -> Result<&Map<String, Val
 
 /// The items of a list.
 pub(crate) fn array_of(alloc: Global, value: &Value) -> Result<&Vec<Value>, ReadFault>
-    ensures { Gives (λ v. items_view v.now.items) result (some_or WrongType (as_array (view value.now))) }
+    ensures { Returns (λ v. items_view v.now.items) result (some_or WrongType (as_array (view value.now))) }
 {
     match value.as_array() {
         Some(items) => Ok(items),
@@ -75,7 +75,7 @@ pub(crate) fn keyed_object<'a>(
     alloc: Global,
     item: &'a Value,
 ) -> Result<&'a Map<String, Value>, ReadFault>
-    ensures { Gives (λ m. members_view m.now.entries) result
+    ensures { Returns (λ m. members_view m.now.entries) result
         (and_then (object_item (view item.now)) (λ ms. if have_keys (names_in names.now) ms then Ok ms else Err (KeyFieldMissing, []))) }
 {
     match item.as_object() {
@@ -98,7 +98,7 @@ pub(crate) fn keyed_object<'a>(
 
 /// An item of a set, by its scalar.
 pub(crate) fn set_item(alloc: Global, scalar: &Value) -> Result<Item, ReadFault>
-    ensures { Gives item_view result (named_item (set_item_text (view scalar.now)) nothing) }
+    ensures { Returns item_view result (named_item (set_item_text (view scalar.now)) nothing) }
 {
     match ElemText::of_set_item(alloc, scalar)? {
         Some(element) => Ok(Item {
@@ -147,7 +147,7 @@ pub(crate) fn item_of_keys(
     keys: Map<String, Value>,
     below: PathMap,
 ) -> Result<Item, ReadFault>
-    ensures { Gives item_view result (named_item (list_item_text (object (members_view keys.entries))) (content below)) }
+    ensures { Returns item_view result (named_item (list_item_text (object (members_view keys.entries))) (content below)) }
 {
     match ElemText::of_list_item(alloc, &Value::Object(keys))? {
         Some(element) => Ok(Item { element, below }),
@@ -162,7 +162,7 @@ pub(crate) fn list_item(
     members: &Map<String, Value>,
     below: PathMap,
 ) -> Result<Item, ReadFault>
-    ensures { Gives item_view result
+    ensures { Returns item_view result
         (named_item (list_item_text (object (keys_in (names_in names.now) (members_view members.now.entries)))) (content below)) }
 {
     item_of_keys(alloc, key_members(names, alloc, members)?, below)
@@ -175,7 +175,7 @@ pub(crate) fn add_item(
     place: usize,
     read: Result<Item, ReadFault>,
 ) -> Result<(), ReadFault>
-    ensures { (answer : Read (List ℕ × Content)) (seen : List (List ℕ)) → AreSeen seen (content map.old) → Gives item_view read answer
+    ensures { (answer : Read (List ℕ × Content)) (seen : List (List ℕ)) → AreSeen seen (content map.old) → Returns item_view read answer
         → AddsItem seen place (content map.old) (content map.new) result answer }
 {
     match read {
@@ -199,7 +199,7 @@ pub(crate) fn add_member(
     name: &str,
     read: Result<PathMap, ReadFault>,
 ) -> Result<(), ReadFault>
-    ensures { (answer : Read Content) → IsFree (name_text name.now) (content map.old) → Gives content read answer
+    ensures { (answer : Read Content) → IsFree (name_text name.now) (content map.old) → Returns content read answer
         → Joins (content map.old) (content map.new) result (at_field name.now (unless_key (names_in names.now) name.now answer)) }
 {
     match read {

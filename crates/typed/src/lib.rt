@@ -30,7 +30,7 @@ pub use fault::{Cause, ReadFault};
 pub use omitted::Omitted;
 pub use pathmap::Part;
 pub use print_law::{
-    contents_are_kept, contents_are_placed, contents_have_places, printed_has_no_float,
-    printed_is_textual, printed_reads_back, readings_are_placed,
+    contents_are_kept, contents_are_well_typed, contents_have_places, printed_has_no_float,
+    printed_is_textual, printed_reads_back, readings_are_well_typed,
 };
 pub use tree::Tree;

@@ -5,7 +5,7 @@ ghost use Rattle.serde_json.specs.Data.{Data, object};
 ghost use Rattle.serde_json.specs.View.{items_view, members_view, view};
 ghost use Rattle.schema.specs.Shape.{fields_in, kind_of, shape};
 ghost use Rattle.typed.specs.declared.fault.Cause.TheVariants.{WrongType};
-ghost use Rattle.typed.specs.Faults.{Gives, Read, Tells, fault_in};
+ghost use Rattle.typed.specs.Faults.{Returns, Read, ReportsFault, fault_in};
 ghost use Rattle.typed.specs.Reading.{plain_item, plain_items, plain_members, plain_of, plain_of_field};
 ghost use Rattle.typed.specs.Steps.{PushesItem, PutsMember};
 
@@ -16,7 +16,7 @@ use serde_json::{Map, Value};
 use std::alloc::Global;
 
 fn copy_if(alloc: Global, fits: bool, value: &Value) -> Result<Value, ReadFault>
-    ensures { Gives view result (if fits then Ok (view value.now) else Err (WrongType, [])) }
+    ensures { Returns view result (if fits then Ok (view value.now) else Err (WrongType, [])) }
 {
     if fits {
         Ok(value.clone()?)
@@ -31,7 +31,7 @@ fn put_member(
     name: &str,
     read: Result<Value, ReadFault>,
 ) -> Result<(), ReadFault>
-    ensures { (answer : Read Data) → Gives view read answer
+    ensures { (answer : Read Data) → Returns view read answer
         → PutsMember name.now (members_view members.old.entries) (members_view members.new.entries) result answer }
 {
     match read {
@@ -49,7 +49,7 @@ fn push_item(
     place: usize,
     read: Result<Value, ReadFault>,
 ) -> Result<(), ReadFault>
-    ensures { (answer : Read Data) → Gives view read answer
+    ensures { (answer : Read Data) → Returns view read answer
         → PushesItem place (map view items.old.items) (map view items.new.items) result answer }
 {
     match read {
@@ -66,7 +66,7 @@ fn check_item(kind: &ListKind, alloc: Global, item: &Value) -> Result<(), ReadFa
     ensures ok { OnOk result ((inner : Data → Read Data)
         → plain_item (kind_of kind.now) inner (λ ms. inner (object ms)) (view item.now) ≡ inner (view item.now)) }
     ensures err { IfErr result (λ e. (inner : Data → Read Data)
-        → Tells e (fault_in (plain_item (kind_of kind.now) inner (λ ms. inner (object ms)) (view item.now)))) }
+        → ReportsFault e (fault_in (plain_item (kind_of kind.now) inner (λ ms. inner (object ms)) (view item.now)))) }
 {
     match kind {
         ListKind::Atomic => {
@@ -90,7 +90,7 @@ fn plain_values(
     alloc: Global,
     members: &Map<String, Value>,
 ) -> Result<Map<String, Value>, ReadFault>
-    ensures { Gives (λ m. members_view m.entries) result
+    ensures { Returns (λ m. members_view m.entries) result
         (plain_members (λ k e. plain_of (shape inner.now) e) (members_view members.now.entries)) }
 {
     let mut plain = Map::new(alloc);
@@ -111,7 +111,7 @@ fn plain_field(
     name: &str,
     value: &Value,
 ) -> Result<Value, ReadFault>
-    ensures { Gives view result (plain_of_field (fields_in fields.now) name.now (view value.now)) }
+    ensures { Returns view result (plain_of_field (fields_in fields.now) name.now (view value.now)) }
 {
     for (known, inner) in fields {
         if known.as_str() == name {
@@ -127,7 +127,7 @@ fn plain_fields(
     alloc: Global,
     members: &Map<String, Value>,
 ) -> Result<Map<String, Value>, ReadFault>
-    ensures { Gives (λ m. members_view m.entries) result
+    ensures { Returns (λ m. members_view m.entries) result
         (plain_members (λ k e. plain_of_field (fields_in fields.now) k e) (members_view members.now.entries)) }
 {
     let mut plain = Map::new(alloc);
@@ -148,7 +148,7 @@ fn plain_one(
     kind: &ListKind,
     item: &Value,
 ) -> Result<Value, ReadFault>
-    ensures { Gives view result
+    ensures { Returns view result
         (plain_item (kind_of kind.now) (λ e. plain_of (shape inner.now) e) (λ ms. plain_of (shape inner.now) (object ms)) (view item.now)) }
 {
     check_item(kind, alloc, item)?;
@@ -162,7 +162,7 @@ fn plain_list(
     kind: &ListKind,
     items: &[Value],
 ) -> Result<Vec<Value>, ReadFault>
-    ensures { Gives (λ v. items_view v.items) result
+    ensures { Returns (λ v. items_view v.items) result
         (plain_items (plain_item (kind_of kind.now) (λ e. plain_of (shape inner.now) e) (λ ms. plain_of (shape inner.now) (object ms))) 0 (items_view items.now)) }
 {
     let mut plain = Vec::new(alloc);
@@ -176,7 +176,7 @@ fn plain_list(
 /// An atomic value as it is kept: a copy without null members at any depth.
 #[cycle(plain)]
 pub(crate) fn read_plain(schema: &Schema, alloc: Global, value: &Value) -> Result<Value, ReadFault>
-    ensures { Gives view result (plain_of (shape schema.now) (view value.now)) }
+    ensures { Returns view result (plain_of (shape schema.now) (view value.now)) }
 {
     match schema {
         Schema::Text => copy_if(alloc, value.is_string(), value),

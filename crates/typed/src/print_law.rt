@@ -1,7 +1,7 @@
 //! Laws: what is printed of a content reads back as it, and has no float. Contents are printed in `print`.
 
-ghost use Rattle.typed.specs.Fitting.{ContentsArePlaced, OversAreContents, PrintedIsTextual, ReadingsAreContents, RemainsAreContents};
-ghost use Rattle.typed.specs.Placed.{HavePlaces, PrintedHasNoFloat, ReadingsArePlaced, RoundTrip};
+ghost use Rattle.typed.specs.Fitting.{ContentsAreWellTyped, OversAreContents, PrintedIsTextual, ReadingsAreContents, RemainsAreContents};
+ghost use Rattle.typed.specs.WellTyped.{HavePlaces, PrintedHasNoFloat, ReadingsAreWellTyped, RoundTrip};
 
 /// What is printed of a content reads back as that content; where nothing is printed, nothing stands.
 pub fn printed_reads_back()
@@ -20,13 +20,13 @@ pub fn contents_have_places()
 
 /// What reading gives of a value that a JSON text spells is a content that the schema's shape has,
 /// so what is printed of it reads back as it.
-pub fn readings_are_placed()
-    ensures { ReadingsArePlaced }
+pub fn readings_are_well_typed()
+    ensures { ReadingsAreWellTyped }
 {}
 
 /// A content path by path is the same as one level by level.
-pub fn contents_are_placed()
-    ensures { ContentsArePlaced }
+pub fn contents_are_well_typed()
+    ensures { ContentsAreWellTyped }
 {}
 
 /// What is read is a content path by path, and so are one content over another and what is left of one.

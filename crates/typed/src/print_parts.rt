@@ -2,24 +2,24 @@
 
 ghost use Rattle.std.specs.Prelude.{◌≡◌, ◌++◌, IfOk, OnOk, option_map, option_to_list, string_bytes};
 ghost use Rattle.serde_json.specs.View.{view, items_view, members_view};
-ghost use Rattle.pathmap.specs.Maps.{content, standing};
+ghost use Rattle.pathmap.specs.Maps.{content, leaf_value};
 ghost use Rattle.typed.specs.Printing.{array_or_none, keys_in, object_or_none, scalar_in, value_at, value_of, with_member};
 
 use fieldpath::ElemText;
 use json_values::read_text;
-use pathmap::{Held, PathMap};
+use pathmap::{PathMap, PathValue};
 use serde_json::{Map, Value};
 use std::alloc::{AllocError, Global};
 
-pub(crate) fn print_held(alloc: Global, held: &Held) -> Result<Option<Value>, AllocError>
-    ensures { IfOk result (λ o. option_map view o ≡ value_of (standing held.now)) }
+pub(crate) fn print_held(alloc: Global, held: &PathValue) -> Result<Option<Value>, AllocError>
+    ensures { IfOk result (λ o. option_map view o ≡ value_of (leaf_value held.now)) }
 {
     match held {
-        Held::Text(text) => Ok(Some(Value::from(text.clone()?))),
-        Held::Whole(number) => Ok(Some(Value::from(*number))),
-        Held::Truth(truth) => Ok(Some(Value::from(*truth))),
-        Held::Plain(text) => read_text(alloc, text.as_str()),
-        Held::Mark => Ok(None),
+        PathValue::Text(text) => Ok(Some(Value::from(text.clone()?))),
+        PathValue::Whole(number) => Ok(Some(Value::from(*number))),
+        PathValue::Truth(truth) => Ok(Some(Value::from(*truth))),
+        PathValue::Plain(text) => read_text(alloc, text.as_str()),
+        PathValue::Mark => Ok(None),
     }
 }
 

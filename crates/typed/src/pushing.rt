@@ -1,7 +1,7 @@
 //! What stands at a path, written behind what is written already. A whole content is written in `write`.
 ghost use Rattle.std.specs.Prelude.{◌≡◌, [], OnOk, Some, option_map};
 ghost use Rattle.std.specs.FinMap as fin;
-ghost use Rattle.pathmap.specs.Maps.{content, standing};
+ghost use Rattle.pathmap.specs.Maps.{content, leaf_value};
 ghost use Rattle.serde_json.specs.View.{view};
 ghost use Rattle.typed.specs.Printing.{value_at, value_of};
 ghost use Rattle.typed.specs.Rows.{HasNoFloat, IsWritable};
@@ -9,7 +9,7 @@ ghost use Rattle.typed.specs.Writes.{with_value};
 
 use crate::print_parts::print_held;
 use json_texts::TextWriter;
-use pathmap::{Held, PathMap};
+use pathmap::{PathMap, PathValue};
 use serde_json::Value;
 use std::alloc::{AllocError, Global};
 
@@ -29,12 +29,12 @@ pub(crate) fn push_some(
 
 /// Appends what is held: an atomic value as it is kept, since that is compact JSON; of a number or a truth value a JSON
 /// value is made first.
-fn push_held(out: &mut TextWriter, alloc: Global, held: &Held) -> Result<(), AllocError>
-    ensures { IsWritable (Some (standing held.now)) → OnOk result (out.new ≡ with_value (value_of (standing held.now)) out.old) }
+fn push_held(out: &mut TextWriter, alloc: Global, held: &PathValue) -> Result<(), AllocError>
+    ensures { IsWritable (Some (leaf_value held.now)) → OnOk result (out.new ≡ with_value (value_of (leaf_value held.now)) out.old) }
 {
     match held {
-        Held::Text(text) => out.string(alloc, text.as_str()),
-        Held::Plain(text) => out.raw(alloc, text.as_str()),
+        PathValue::Text(text) => out.string(alloc, text.as_str()),
+        PathValue::Plain(text) => out.raw(alloc, text.as_str()),
         _ => {
             let value = print_held(alloc, held)?;
             push_some(out, alloc, &value)

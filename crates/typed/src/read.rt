@@ -6,7 +6,7 @@ ghost use Rattle.serde_json.specs.View.{items_view, members_view, view};
 ghost use Rattle.pathmap.specs.Maps.{content};
 ghost use Rattle.schema.specs.KeyNames.{names_in};
 ghost use Rattle.schema.specs.Shape.{fields_in, shape, text, truth, whole};
-ghost use Rattle.typed.specs.Faults.{Gives, below};
+ghost use Rattle.typed.specs.Faults.{Returns, below};
 ghost use Rattle.typed.specs.Reading.{beside_keys, content_of, content_of_field, content_of_item, items_at, keyed_item, leaf, members_at, plain_of, set_item};
 ghost use Rattle.typed.specs.Steps.{is_empty, item_view};
 
@@ -15,34 +15,34 @@ use crate::items::{
     Item, add_item, add_member, array_of, keyed_object, list_item, object_of, set_item,
 };
 use crate::plain::read_plain;
-use pathmap::{Held, PathMap};
+use pathmap::{PathMap, PathValue};
 use schema::{ListKind, Schema};
 use serde_json::{Map, Value};
 use std::alloc::Global;
 
 fn read_text(alloc: Global, value: &Value) -> Result<PathMap, ReadFault>
-    ensures { Gives content result (content_of text (view value.now)) }
+    ensures { Returns content result (content_of text (view value.now)) }
 {
     match value.as_str() {
-        Some(text) => Ok(PathMap::leaf(alloc, Held::Text(String::from_str(alloc, text)?))),
+        Some(text) => Ok(PathMap::leaf(alloc, PathValue::Text(String::from_str(alloc, text)?))),
         None => Err(wrong(alloc, Cause::WrongType)),
     }
 }
 
 fn read_whole(alloc: Global, value: &Value) -> Result<PathMap, ReadFault>
-    ensures { Gives content result (content_of whole (view value.now)) }
+    ensures { Returns content result (content_of whole (view value.now)) }
 {
     match value.as_i64() {
-        Some(number) => Ok(PathMap::leaf(alloc, Held::Whole(number))),
+        Some(number) => Ok(PathMap::leaf(alloc, PathValue::Whole(number))),
         None => Err(wrong(alloc, Cause::WrongType)),
     }
 }
 
 fn read_truth(alloc: Global, value: &Value) -> Result<PathMap, ReadFault>
-    ensures { Gives content result (content_of truth (view value.now)) }
+    ensures { Returns content result (content_of truth (view value.now)) }
 {
     match value.as_bool() {
-        Some(truth) => Ok(PathMap::leaf(alloc, Held::Truth(truth))),
+        Some(truth) => Ok(PathMap::leaf(alloc, PathValue::Truth(truth))),
         None => Err(wrong(alloc, Cause::WrongType)),
     }
 }
@@ -58,24 +58,24 @@ fn is_empty(value: &Value) -> bool
 }
 
 fn read_atomic(schema: &Schema, alloc: Global, value: &Value) -> Result<PathMap, ReadFault>
-    ensures { Gives content result (below [] leaf (plain_of (shape schema.now) (view value.now))) }
+    ensures { Returns content result (below [] leaf (plain_of (shape schema.now) (view value.now))) }
 {
     let plain = read_plain(schema, alloc, value)?;
     if is_empty(&plain) {
         return Ok(PathMap::empty(alloc));
     }
-    Ok(PathMap::leaf(alloc, Held::Plain(plain.to_string(alloc)?)))
+    Ok(PathMap::leaf(alloc, PathValue::Plain(plain.to_string(alloc)?)))
 }
 
 fn read_scalar_item(inner: &Schema, alloc: Global, item: &Value) -> Result<Item, ReadFault>
-    ensures { Gives item_view result (set_item (plain_of (shape inner.now)) (view item.now)) }
+    ensures { Returns item_view result (set_item (plain_of (shape inner.now)) (view item.now)) }
 {
     let scalar = read_plain(inner, alloc, item)?;
     set_item(alloc, &scalar)
 }
 
 fn read_set(inner: &Schema, alloc: Global, items: &[Value]) -> Result<PathMap, ReadFault>
-    ensures { Gives content result (items_at (set_item (plain_of (shape inner.now))) 0 [] (items_view items.now)) }
+    ensures { Returns content result (items_at (set_item (plain_of (shape inner.now))) 0 [] (items_view items.now)) }
 {
     let mut map = PathMap::empty(alloc);
     for (place, item) in items.iter().enumerate() {
@@ -92,7 +92,7 @@ fn read_list(
     names: &[String],
     items: &[Value],
 ) -> Result<PathMap, ReadFault>
-    ensures { Gives content result
+    ensures { Returns content result
         (items_at (keyed_item (names_in names.now) (λ ms. content_of_item (shape inner.now) (names_in names.now) ms)) 0 [] (items_view items.now)) }
 {
     let mut map = PathMap::empty(alloc);
@@ -110,7 +110,7 @@ fn read_item(
     names: &[String],
     item: &Value,
 ) -> Result<Item, ReadFault>
-    ensures { Gives item_view result
+    ensures { Returns item_view result
         (keyed_item (names_in names.now) (λ ms. content_of_item (shape inner.now) (names_in names.now) ms) (view item.now)) }
 {
     let members = keyed_object(names, alloc, item)?;
@@ -129,7 +129,7 @@ fn read_values(
     alloc: Global,
     members: &Map<String, Value>,
 ) -> Result<PathMap, ReadFault>
-    ensures { Gives content result
+    ensures { Returns content result
         (members_at (λ k e. content_of (shape inner.now) e) (members_view members.now.entries)) }
 {
     let mut map = PathMap::empty(alloc);
@@ -150,7 +150,7 @@ pub(crate) fn read_field(
     name: &str,
     value: &Value,
 ) -> Result<PathMap, ReadFault>
-    ensures { Gives content result (content_of_field (fields_in fields.now) name.now (view value.now)) }
+    ensures { Returns content result (content_of_field (fields_in fields.now) name.now (view value.now)) }
 {
     for (known, inner) in fields {
         if known.as_str() == name {
@@ -167,7 +167,7 @@ fn read_struct(
     names: &[String],
     members: &Map<String, Value>,
 ) -> Result<PathMap, ReadFault>
-    ensures { Gives content result
+    ensures { Returns content result
         (members_at (beside_keys (names_in names.now) (λ k e. content_of_field (fields_in fields.now) k e)) (members_view members.now.entries)) }
 {
     let mut map = PathMap::empty(alloc);
@@ -184,7 +184,7 @@ fn read_struct(
 /// The content of a value, or the first fault in its shape.
 #[cycle(read)]
 pub(crate) fn read_map(schema: &Schema, alloc: Global, value: &Value) -> Result<PathMap, ReadFault>
-    ensures { Gives content result (content_of (shape schema.now) (view value.now)) }
+    ensures { Returns content result (content_of (shape schema.now) (view value.now)) }
 {
     match schema {
         Schema::Text => read_text(alloc, value),

@@ -15,7 +15,7 @@ ghost use Rattle.typed.specs.Printing.{print};
 ghost use Rattle.pathmap.specs.Contents.{nothing, over};
 ghost use Rattle.pathmap.specs.Maps.{content};
 ghost use Rattle.pathmap.specs.Parted.{part_of, rest_of};
-ghost use Rattle.typed.specs.Faults.{Gives};
+ghost use Rattle.typed.specs.Faults.{Returns};
 ghost use Rattle.typed.specs.Reading.{content_of};
 ghost use Rattle.typed.specs.Without.{omitted_of, without};
 
@@ -55,7 +55,7 @@ impl Tree {
     /// The content of a value under a schema, or the first fault in its shape: depth first, members in byte order, items
     /// by their place. A null member is absent, and so are an empty object and an empty list.
     pub fn read(schema: &Schema, alloc: Global, value: &Value) -> Result<Tree, ReadFault>
-        ensures { Gives (λ t. t) result (content_of (shape schema.now) (view value.now)) }
+        ensures { Returns (λ t. t) result (content_of (shape schema.now) (view value.now)) }
     {
         Ok(Tree {
             map: read_map(schema, alloc, value)?,
@@ -69,7 +69,7 @@ impl Tree {
         value: &json::Value<'_>,
     ) -> Result<Tree, ReadFault>
         requires { is_ordered (value_view value.now) ≡ true }
-        ensures { Gives (λ t. t) result (content_of (shape schema.now) (data_of (value_view value.now))) }
+        ensures { Returns (λ t. t) result (content_of (shape schema.now) (data_of (value_view value.now))) }
     {
         Ok(Tree {
             map: read_borrowed(schema, alloc, value)?,
@@ -83,7 +83,7 @@ impl Tree {
         value: &Value,
         omitted: Omitted<'_>,
     ) -> Result<Tree, ReadFault>
-        ensures { Gives (λ t. t) result (content_of (shape schema.now) (without (omitted_of omitted.entry) (view value.now))) }
+        ensures { Returns (λ t. t) result (content_of (shape schema.now) (without (omitted_of omitted.entry) (view value.now))) }
     {
         Ok(Tree {
             map: read_without(schema, alloc, value, omitted)?,

@@ -8,7 +8,7 @@ ghost use Rattle.serde_json.specs.View.{members_view, view};
 ghost use Rattle.pathmap.specs.Maps.{content};
 ghost use Rattle.schema.specs.Among.{is_in};
 ghost use Rattle.schema.specs.Shape.{fields_in, shape, struct_of};
-ghost use Rattle.typed.specs.Faults.{Gives};
+ghost use Rattle.typed.specs.Faults.{Returns};
 ghost use Rattle.typed.specs.Reading.{content_of, content_of_field, members_at};
 ghost use Rattle.typed.specs.Without.{but, kept, members_kept, omitted_of, without};
 
@@ -28,7 +28,7 @@ fn read_members_but(
     members: &Map<String, Value>,
     names: &[&str],
 ) -> Result<PathMap, ReadFault>
-    ensures { Gives content result
+    ensures { Returns content result
         (members_at (λ k e. content_of_field (fields_in fields.now) k e) (members_kept (is_in (map (λ n. n.now) names.now)) (λ k d. d) (members_view members.now.entries))) }
 {
     let mut map = PathMap::empty(alloc);
@@ -49,7 +49,7 @@ fn read_struct_but(
     value: &Value,
     names: &[&str],
 ) -> Result<PathMap, ReadFault>
-    ensures { Gives content result (content_of (struct_of (fields_in fields.now) false) (but (map (λ n. n.now) names.now) (view value.now))) }
+    ensures { Returns content result (content_of (struct_of (fields_in fields.now) false) (but (map (λ n. n.now) names.now) (view value.now))) }
 {
     let members = object_of(alloc, value)?;
     read_members_but(fields, alloc, members, names)
@@ -62,7 +62,7 @@ fn read_but(
     value: &Value,
     names: &[&str],
 ) -> Result<PathMap, ReadFault>
-    ensures { Gives content result (content_of (shape schema.now) (but (map (λ n. n.now) names.now) (view value.now))) }
+    ensures { Returns content result (content_of (shape schema.now) (but (map (λ n. n.now) names.now) (view value.now))) }
 {
     match schema.granular_fields() {
         Some(fields) => read_struct_but(fields, alloc, value, names),
@@ -78,7 +78,7 @@ fn read_field_but(
     value: &Value,
     names: &[&str],
 ) -> Result<PathMap, ReadFault>
-    ensures { Gives content result (content_of_field (fields_in fields.now) name.now (but (map (λ n. n.now) names.now) (view value.now))) }
+    ensures { Returns content result (content_of_field (fields_in fields.now) name.now (but (map (λ n. n.now) names.now) (view value.now))) }
 {
     match field_at(fields, name) {
         Some(inner) => read_but(inner, alloc, value, names),
@@ -94,7 +94,7 @@ fn read_kept(
     value: &Value,
     omitted: Omitted<'_>,
 ) -> Result<PathMap, ReadFault>
-    ensures { Gives content result (content_of_field (fields_in fields.now) name.now (kept (omitted_of omitted.entry) name.now (view value.now))) }
+    ensures { Returns content result (content_of_field (fields_in fields.now) name.now (kept (omitted_of omitted.entry) name.now (view value.now))) }
 {
     if name == omitted.inside {
         return read_field_but(fields, alloc, name, value, omitted.inner);
@@ -109,7 +109,7 @@ fn read_members(
     members: &Map<String, Value>,
     omitted: Omitted<'_>,
 ) -> Result<PathMap, ReadFault>
-    ensures { Gives content result
+    ensures { Returns content result
         (members_at (λ k e. content_of_field (fields_in fields.now) k e) (members_kept (is_in (omitted_of omitted.entry).names) (kept (omitted_of omitted.entry)) (members_view members.now.entries))) }
 {
     let mut map = PathMap::empty(alloc);
@@ -130,7 +130,7 @@ fn read_struct(
     value: &Value,
     omitted: Omitted<'_>,
 ) -> Result<PathMap, ReadFault>
-    ensures { Gives content result (content_of (struct_of (fields_in fields.now) false) (without (omitted_of omitted.entry) (view value.now))) }
+    ensures { Returns content result (content_of (struct_of (fields_in fields.now) false) (without (omitted_of omitted.entry) (view value.now))) }
 {
     let members = object_of(alloc, value)?;
     read_members(fields, alloc, members, omitted)
@@ -143,7 +143,7 @@ pub(crate) fn read_without(
     value: &Value,
     omitted: Omitted<'_>,
 ) -> Result<PathMap, ReadFault>
-    ensures { Gives content result (content_of (shape schema.now) (without (omitted_of omitted.entry) (view value.now))) }
+    ensures { Returns content result (content_of (shape schema.now) (without (omitted_of omitted.entry) (view value.now))) }
 {
     match schema.granular_fields() {
         Some(fields) => read_struct(fields, alloc, value, omitted),

@@ -11,14 +11,14 @@ use Rattle.schema.specs.Shape.{Shape}
 use Rattle.api_types.specs.TypesFile.{ServedShape}
 use Rattle.history.specs.History.{Key, Object, last_revision}
 use Rattle.objects.specs.ObjectText.{object_text}
-use Rattle.objects.specs.Placed.{IsPlacedState}
+use Rattle.objects.specs.WellTyped.{IsWellTypedState}
 use Rattle.objects.specs.ReadBack.{IsObjectText}
 use Rattle.objects.proofs.Taken.{no_some, same_some}
 use Rattle.ownership.specs.Carry.{Carries, carried_state}
 use Rattle.ownership.specs.Sides.{OwnSides}
 use Rattle.ownership.proofs.CarriedStates.{carried_carries, carried_same}
-use Rattle.verbs.specs.Machine.{IsSomeTextAt, IsTextOf, identity_of, state_said}
-use Rattle.verbs.specs.Retyping.{carried_text, is_changed, is_text, text_under}
+use Rattle.verbs.specs.Machine.{IsSomeTextAt, IsTextOf, identity_of, decoded_state}
+use Rattle.verbs.specs.Retyping.{carried_text, is_changed, text_unchanged, text_under}
 use Rattle.verbs.proofs.Said.{printed_is_text, said_back, text_is}
 
 not_false : (b : Bool) → not b ≡ false → b ≡ true
@@ -27,18 +27,18 @@ not_false false h = absurd (true≢false h)
 
 -- ---- the type that takes the place of another
 
-pub record IsNewType (others : List ServedShape) (n : ℕ) (t : ServedShape) : Type 0 where
+pub record IsNewType (next_types : List ServedShape) (n : ℕ) (t : ServedShape) : Type 0 where
   pub u : ServedShape
-  pub serves : slice_get others n ≡ Some u
+  pub serves : slice_get next_types n ≡ Some u
   pub may : type_may_become t u ≡ true
 
-pub new_type : (types others : List ServedShape) → types_may_become types others ≡ true → (n : ℕ) (t : ServedShape) → slice_get types n ≡ Some t → IsNewType others n t
-new_type [] others may n t is = no_some t (sym is)
+pub new_type : (types next_types : List ServedShape) → types_may_become types next_types ≡ true → (n : ℕ) (t : ServedShape) → slice_get types n ≡ Some t → IsNewType next_types n t
+new_type [] next_types may n t is = no_some t (sym is)
 new_type (x ∷ types) [] may n t is = absurd (true≢false (sym may))
-new_type (x ∷ types) (u ∷ others) may zero t is =
-    record { u = u; serves = refl; may = subst (λ y. type_may_become y u ≡ true) (same_some x t is) (and_parts (type_may_become x u) (types_may_become types others) may).0 }
-new_type (x ∷ types) (u ∷ others) may (suc n) t is =
-    let rest = new_type types others (and_parts (type_may_become x u) (types_may_become types others) may).1 n t is in record { u = rest.u; serves = rest.serves; may = rest.may }
+new_type (x ∷ types) (u ∷ next_types) may zero t is =
+    record { u = u; serves = refl; may = subst (λ y. type_may_become y u ≡ true) (same_some x t is) (and_parts (type_may_become x u) (types_may_become types next_types) may).0 }
+new_type (x ∷ types) (u ∷ next_types) may (suc n) t is =
+    let rest = new_type types next_types (and_parts (type_may_become x u) (types_may_become types next_types) may).1 n t is in record { u = rest.u; serves = rest.serves; may = rest.may }
 
 abbrev type_of : (group version kind plural : List ℕ) → Shape → ServedShape
 type_of group version kind plural s = record { group = group; version = version; kind = kind; plural = plural; shape = s }
@@ -62,53 +62,53 @@ module _ (t u : ServedShape) (may : type_may_become t u ≡ true) where
       (and_parts (bytes_eq t.plural u.plural) _ kind.1).1
 
 -- so a text of some time is still one
-pub still_some_text : (types others : List ServedShape) → types_may_become types others ≡ true → (k : Key) (r : ℕ) (text : List ℕ) → IsSomeTextAt types k r text → IsSomeTextAt others k r text
-still_some_text types others may k r text is =
-    let new = new_type types others may k.kind is.t is.served in
+pub still_some_text : (types next_types : List ServedShape) → types_may_become types next_types ≡ true → (k : Key) (r : ℕ) (text : List ℕ) → IsSomeTextAt types k r text → IsSomeTextAt next_types k r text
+still_some_text types next_types may k r text is =
+    let new = new_type types next_types may k.kind is.t is.served in
     record { t = new.u; served = new.serves; shape = is.shape; shaped = is.shaped; is_text = subst (λ x. IsTextOf x k r text) (same_names is.t new.u new.may is.shape) is.is_text }
 
 -- ---- an object's text under its new type
 
-module _ (types others : List ServedShape) (k : Key) (o : Object) (t u : ServedShape) (was : slice_get types k.kind ≡ Some t) (now : slice_get others k.kind ≡ Some u) (old : IsObjectShape t.shape) (new : IsObjectShape u.shape)
+module _ (types next_types : List ServedShape) (k : Key) (o : Object) (t u : ServedShape) (was : slice_get types k.kind ≡ Some t) (now : slice_get next_types k.kind ≡ Some u) (old : IsObjectShape t.shape) (new : IsObjectShape u.shape)
     (may : type_may_become t u ≡ true) (text : IsTextOf t k o.revision o.body) where
-  said : state_said t.shape o.body ≡ text.state
+  said : decoded_state t.shape o.body ≡ text.state
   said = said_back t.shape _ o.revision text.state o.body old text.says
 
-  placed : IsPlacedState t.shape (state_said t.shape o.body)
-  placed = subst (IsPlacedState t.shape) (sym said) text.says.placed
+  well_typed : IsWellTypedState t.shape (decoded_state t.shape o.body)
+  well_typed = subst (IsWellTypedState t.shape) (sym said) text.says.well_typed
 
-  carry : Carries t.shape u.shape (state_said t.shape o.body) (carried_state t.shape u.shape (state_said t.shape o.body))
-  carry = carried_carries t.shape u.shape (state_said t.shape o.body) old new (shape_may t u may) placed
+  carry : Carries t.shape u.shape (decoded_state t.shape o.body) (carried_state t.shape u.shape (decoded_state t.shape o.body))
+  carry = carried_carries t.shape u.shape (decoded_state t.shape o.body) old new (shape_may t u may) well_typed
 
-  pub under : (r : ℕ) → text_under types others r k o ≡ Some (carried_text t u r k o)
+  pub under : (r : ℕ) → text_under types next_types r k o ≡ Some (carried_text t u r k o)
   under r = ap₂ (λ a b. option_and_then (λ x. option_map (λ y. carried_text x y r k o) b) a) was now
 
-  new_says : (r : ℕ) → r ≤ last_revision → IsObjectText u.shape (identity_of u k) r (carried_state t.shape u.shape (state_said t.shape o.body)) (carried_text t u r k o)
-  new_says r low = printed_is_text u k r (carried_state t.shape u.shape (state_said t.shape o.body)) carry.placed low
+  new_says : (r : ℕ) → r ≤ last_revision → IsObjectText u.shape (identity_of u k) r (carried_state t.shape u.shape (decoded_state t.shape o.body)) (carried_text t u r k o)
+  new_says r low = printed_is_text u k r (carried_state t.shape u.shape (decoded_state t.shape o.body)) carry.well_typed low
 
   pub new_text : (r : ℕ) → r ≤ last_revision → IsTextOf u k r (carried_text t u r k o)
   new_text r low = record {
-    state = carried_state t.shape u.shape (state_said t.shape o.body);
+    state = carried_state t.shape u.shape (decoded_state t.shape o.body);
     says = new_says r low;
     sides = carry.sides (subst OwnSides (sym said) text.sides);
     named = text.named;
   }
 
-  pub says_carried : (r : ℕ) → r ≤ last_revision → state_said u.shape (carried_text t u r k o) ≡ carried_state t.shape u.shape (state_said t.shape o.body)
-  says_carried r low = said_back u.shape _ r (carried_state t.shape u.shape (state_said t.shape o.body)) (carried_text t u r k o) new (new_says r low)
+  pub says_carried : (r : ℕ) → r ≤ last_revision → decoded_state u.shape (carried_text t u r k o) ≡ carried_state t.shape u.shape (decoded_state t.shape o.body)
+  says_carried r low = said_back u.shape _ r (carried_state t.shape u.shape (decoded_state t.shape o.body)) (carried_text t u r k o) new (new_says r low)
 
   -- where the text stays, it is the new one at its revision
-  pub text_stays : is_changed types others (k, o) ≡ false → carried_text t u o.revision k o ≡ o.body
+  pub text_stays : is_changed types next_types (k, o) ≡ false → carried_text t u o.revision k o ≡ o.body
   text_stays h =
       (bytes_eq-Decides (carried_text t u o.revision k o) o.body).0
-      (ap (λ x. is_text x o.body) (sym (under o.revision)) ∙ not_false (is_text (text_under types others o.revision k o) o.body) h)
+      (ap (λ x. text_unchanged x o.body) (sym (under o.revision)) ∙ not_false (text_unchanged (text_under types next_types o.revision k o) o.body) h)
 
 -- under its own type it is the same
 pub same_text : (types : List ServedShape) (k : Key) (o : Object) (t : ServedShape) → slice_get types k.kind ≡ Some t → IsObjectShape t.shape → IsTextOf t k o.revision o.body → is_changed types types (k, o) ≡ false
 same_text types k o t serves shaped text =
-    let state = state_said t.shape o.body in
+    let state = decoded_state t.shape o.body in
     let said : state ≡ text.state = said_back t.shape _ o.revision text.state o.body shaped text.says in
     let same : carried_text t t o.revision k o ≡ o.body =
     text_is t k o.revision (carried_state t.shape t.shape state)
-    ∙ ap (λ x. object_text t.shape (identity_of t k) o.revision x) (carried_same t.shape state shaped (subst (IsPlacedState t.shape) (sym said) text.says.placed) ∙ said) ∙ sym text.says.is_text in
-    ap (λ a. not (is_text (option_and_then (λ x. option_map (λ y. carried_text x y o.revision k o) a) a) o.body)) serves ∙ ap not ((bytes_eq-Decides (carried_text t t o.revision k o) o.body).1 same)
+    ∙ ap (λ x. object_text t.shape (identity_of t k) o.revision x) (carried_same t.shape state shaped (subst (IsWellTypedState t.shape) (sym said) text.says.well_typed) ∙ said) ∙ sym text.says.is_text in
+    ap (λ a. not (text_unchanged (option_and_then (λ x. option_map (λ y. carried_text x y o.revision k o) a) a) o.body)) serves ∙ ap not ((bytes_eq-Decides (carried_text t t o.revision k o) o.body).1 same)

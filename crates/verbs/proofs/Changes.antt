@@ -4,7 +4,7 @@ use Rattle.std.specs.Prelude.{IfSome, nat_le}
 use Rattle.std.specs.FinMap as fin
 use Rattle.std.specs.List.{AllByRecursion}
 use Rattle.api_types.specs.TypesFile.{ServedShape}
-use Rattle.history.specs.History.{Key, Change, Object, Objects, History, IsHistory, changed, is_same_key, key_cmp, left_by, object_by, put_or_remove, standing, state_at, up_to, written}
+use Rattle.history.specs.History.{Key, Change, Object, Objects, History, IsHistory, changed, is_same_key, key_cmp, left_by, object_by, put_or_remove, current_objects, state_at, up_to, written}
 use Rattle.history.specs.Whole.{IsWhole}
 use Rattle.history.proofs.Keys.{get-put_or_remove, tied}
 use Rattle.history.proofs.Lists.{all-filter}
@@ -19,8 +19,8 @@ use Rattle.verbs.proofs.Said.{shapes_of}
 pub is_history : (types : List ServedShape) (m : History) → IsMachine types m → IsHistory m
 is_history types m is = whole_is is.first m is.whole
 
-standing_is : (m : History) → IsHistory m → standing m ≡ changed fin.empty m.changes
-standing_is m is = ap (changed fin.empty) (up_to-all 0 m.current m.current m.changes (omega arith) is.rising)
+current_objects_is : (m : History) → IsHistory m → current_objects m ≡ changed fin.empty m.changes
+current_objects_is m is = ap (changed fin.empty) (up_to-all 0 m.current m.current m.changes (omega arith) is.rising)
 
 -- ---- each text that stands is as P says of its key, its revision and its bytes
 
@@ -28,8 +28,8 @@ module _ (P : Key → ℕ → List ℕ → Type 0) where
   abbrev pub AllAre : Objects → Type 0
   AllAre s = (k : Key) (o : Object) → fin.get s k ≡ Some o → P k o.revision o.body
 
-  none_stands : AllAre fin.empty
-  none_stands k o there = no_some o (sym there ∙ fin.get-empty key_cmp k)
+  none_represents : AllAre fin.empty
+  none_represents k o there = no_some o (sym there ∙ fin.get-empty key_cmp k)
 
   left_text : (k : Key) (r : ℕ) (body : Option (List ℕ)) (o : Object) → IfSome body (P k r) → object_by r body ≡ Some o → P k o.revision o.body
   left_text k r None o is e = no_some o (sym e)
@@ -47,12 +47,12 @@ module _ (P : Key → ℕ → List ℕ → Type 0) where
   texts_changed (c ∷ cs) s all are = texts_changed cs (put_or_remove s c.key (left_by c)) (texts_put s c.key c.revision c.body all are.0) are.1
 
 pub no_texts : (types : List ServedShape) → AreTexts types fin.empty
-no_texts types = none_stands (IsTextAt types)
+no_texts types = none_represents (IsTextAt types)
 
 -- at any revision
 pub texts_at : (types : List ServedShape) (m : History) (r : ℕ) (k : Key) (o : Object) → IsMachine types m → fin.get (state_at m.changes r) k ≡ Some o → IsSomeTextAt types k o.revision o.body
 texts_at types m r k o is there =
-    texts_changed (IsSomeTextAt types) (up_to r m.changes) fin.empty (none_stands (IsSomeTextAt types))
+    texts_changed (IsSomeTextAt types) (up_to r m.changes) fin.empty (none_represents (IsSomeTextAt types))
     (all-filter (IsOfTypes types) (λ c. nat_le c.revision r) m.changes is.texts) k o there
 
 -- ---- one more change
@@ -76,12 +76,12 @@ whole_next : (types : List ServedShape) (m : History) (c : Change) (is : IsMachi
 whole_next types m c is next = whole_writes is.first m c.key c.body is.whole (subst (λ n. n ≤ 9223372036854775807) next.next next.high) next.there
 
 -- what stands after a change is what stood before it, changed by it
-pub standing_next : (types : List ServedShape) (m : History) (c : Change) → IsMachine types m → IsNext types m c
-    → standing (written m c.key c.body) ≡ put_or_remove (standing m) c.key (object_by (suc m.current) c.body)
-standing_next types m c is next =
-    standing_is (written m c.key c.body) (whole_is is.first (written m c.key c.body) (whole_next types m c is next))
+pub current_objects_next : (types : List ServedShape) (m : History) (c : Change) → IsMachine types m → IsNext types m c
+    → current_objects (written m c.key c.body) ≡ put_or_remove (current_objects m) c.key (object_by (suc m.current) c.body)
+current_objects_next types m c is next =
+    current_objects_is (written m c.key c.body) (whole_is is.first (written m c.key c.body) (whole_next types m c is next))
     ∙ changed-append fin.empty m.changes (record { revision = suc m.current; key = c.key; body = c.body } ∷ [])
-    ∙ ap (λ s. put_or_remove s c.key (object_by (suc m.current) c.body)) (sym (standing_is m (is_history types m is)))
+    ∙ ap (λ s. put_or_remove s c.key (object_by (suc m.current) c.body)) (sym (current_objects_is m (is_history types m is)))
 
 pub machine_next : (types : List ServedShape) (m : History) (c : Change) → IsMachine types m → IsNext types m c → IsMachine types (written m c.key c.body)
 machine_next types m c is next =
@@ -91,5 +91,5 @@ machine_next types m c is next =
       whole = whole_next types m c is next;
       shapes = is.shapes;
       texts = all_push (IsOfTypes types) m.changes (record { revision = suc m.current; key = c.key; body = c.body }) is.texts (some_text types c.key (suc m.current) c.body is.shapes text);
-      stand = subst (AreTexts types) (sym (standing_next types m c is next)) (texts_put (IsTextAt types) (standing m) c.key (suc m.current) c.body is.stand text);
+      stand = subst (AreTexts types) (sym (current_objects_next types m c is next)) (texts_put (IsTextAt types) (current_objects m) c.key (suc m.current) c.body is.stand text);
     }

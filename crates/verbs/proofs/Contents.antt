@@ -4,8 +4,8 @@ use Rattle.std.specs.Prelude.{codes}
 use Rattle.std.proofs.lemmas.Bool.{and_parts}
 use Rattle.serde_json.specs.Data.{Data, null, boolean, number, string, array, object, Members, no_members, member, put, depth, members_depth}
 use Rattle.serde_json.specs.Find.{get_member}
-use Rattle.fieldpath.specs.Spelled.{IsSpelled, MembersAreSpelled}
-use Rattle.fieldpath.proofs.Spelled.{put_ascend, put_spelled}
+use Rattle.fieldpath.specs.Encodable.{IsEncodable, MembersAreEncodable}
+use Rattle.fieldpath.proofs.Encodable.{put_ascend, put_encodable}
 use Rattle.params.specs.declared.params.Asked.{Asked}
 use Rattle.pathmap.specs.Contents.{Content}
 use Rattle.schema.specs.Among.{is_in}
@@ -16,7 +16,7 @@ use Rattle.typed.specs.Reading.{content_of}
 use Rattle.objects.proofs.FieldTexts.{put_depth}
 use Rattle.typed.proofs.Keeping.{reading_content}
 use Rattle.schema.specs.ObjectShape.{IsObjectShape}
-use Rattle.objects.proofs.Taken.{Kept, found_spelled, found_depth}
+use Rattle.objects.proofs.Taken.{Kept, found_encodable, found_depth}
 use Rattle.api_request.specs.Json.{IsJson}
 use Rattle.api_validation.specs.Envelope.{Envelope, Expected, envelope_of, given_validated, kind_validated, managers_by, member_of, members_but, metadata_in, metadata_validated, metadata_names, put_metadata, rest_of, top_names, version_allowed, version_validated, with_others}
 use Rattle.api_request.specs.Validated.{Validated}
@@ -27,15 +27,15 @@ use Rattle.api_request.proofs.Checks.{no_err, ok_is, passed}
 
 -- ---- members left out
 
-put_kept : (n : ℕ) (k : List ℕ) (d : Data) (ms : Members) → IsSpelled d → depth d ≤ n → Kept n ms → Kept n (put k d ms)
-put_kept n k d ms spelled deep h = (put_ascend k d ms h.0, put_spelled k d ms spelled h.1, put_depth n k d ms deep h.2)
+put_kept : (n : ℕ) (k : List ℕ) (d : Data) (ms : Members) → IsEncodable d → depth d ≤ n → Kept n ms → Kept n (put k d ms)
+put_kept n k d ms encodable deep h = (put_ascend k d ms h.0, put_encodable k d ms encodable h.1, put_depth n k d ms deep h.2)
 
 none_kept : (n : ℕ) → Kept n no_members
 none_kept n = (refl, tt, omega arith)
 
-kept_if : (n : ℕ) (b : Bool) (k : List ℕ) (d : Data) (ms : Members) → IsSpelled d → depth d ≤ n → Kept n ms → Kept n (cond b ms (put k d ms))
-kept_if n true k d ms spelled deep h = h
-kept_if n false k d ms spelled deep h = put_kept n k d ms spelled deep h
+kept_if : (n : ℕ) (b : Bool) (k : List ℕ) (d : Data) (ms : Members) → IsEncodable d → depth d ≤ n → Kept n ms → Kept n (cond b ms (put k d ms))
+kept_if n true k d ms encodable deep h = h
+kept_if n false k d ms encodable deep h = put_kept n k d ms encodable deep h
 
 first_deep : (a b n : ℕ) → max a b ≤ n → a ≤ n
 first_deep a b n h = omega (arith, h)
@@ -43,14 +43,14 @@ first_deep a b n h = omega (arith, h)
 later_deep : (a b n : ℕ) → max a b ≤ n → b ≤ n
 later_deep a b n h = omega (arith, h)
 
-others_kept : (n : ℕ) (names : List (List ℕ)) (all ms : Members) → MembersAreSpelled all → members_depth all ≤ n → Kept n ms → Kept n (with_others names all ms)
-others_kept n names no_members ms spelled deep h = h
-others_kept n names (member k d more) ms spelled deep h =
-    others_kept n names more (cond (is_in names k) ms (put k d ms)) spelled.1 (later_deep (depth d) (members_depth more) n deep)
-    (kept_if n (is_in names k) k d ms spelled.0 (first_deep (depth d) (members_depth more) n deep) h)
+others_kept : (n : ℕ) (names : List (List ℕ)) (all ms : Members) → MembersAreEncodable all → members_depth all ≤ n → Kept n ms → Kept n (with_others names all ms)
+others_kept n names no_members ms encodable deep h = h
+others_kept n names (member k d more) ms encodable deep h =
+    others_kept n names more (cond (is_in names k) ms (put k d ms)) encodable.1 (later_deep (depth d) (members_depth more) n deep)
+    (kept_if n (is_in names k) k d ms encodable.0 (first_deep (depth d) (members_depth more) n deep) h)
 
-left_kept : (n : ℕ) (names : List (List ℕ)) (all : Members) → MembersAreSpelled all → members_depth all ≤ n → Kept n (members_but names all)
-left_kept n names all spelled deep = others_kept n names all no_members spelled deep (none_kept n)
+left_kept : (n : ℕ) (names : List (List ℕ)) (all : Members) → MembersAreEncodable all → members_depth all ≤ n → Kept n (members_but names all)
+left_kept n names all encodable deep = others_kept n names all no_members encodable deep (none_kept n)
 
 itself : (n : ℕ) → n ≤ n
 itself n = omega arith
@@ -58,7 +58,7 @@ itself n = omega arith
 one_deeper : (a m n : ℕ) → a ≤ m → suc m ≤ n → suc a ≤ n
 one_deeper a m n h k = omega (arith, h, k)
 
-metadata_kept : (n : ℕ) (rest : Members) (found : Option Data) (metadata : Option Members) → Kept n rest → ((d : Data) → found ≡ Some d → IsSpelled d × (depth d ≤ n))
+metadata_kept : (n : ℕ) (rest : Members) (found : Option Data) (metadata : Option Members) → Kept n rest → ((d : Data) → found ≡ Some d → IsEncodable d × (depth d ≤ n))
     → metadata_in found ≡ Ok metadata → Kept n (put_metadata metadata rest)
 metadata_kept n rest None metadata kept is e = subst (λ m. Kept n (put_metadata m rest)) (ok_is None metadata e) kept
 metadata_kept n rest (Some null) metadata kept is e = subst (λ m. Kept n (put_metadata m rest)) (ok_is None metadata e) kept
@@ -106,7 +106,7 @@ rest_json of (object top) e json is =
     let low = less_deep (members_depth top) json.1 in
     let left = left_kept 126 top_names top json.0.1 low in
     let whole = metadata_kept 126 (members_but top_names top) (get_member (codes "metadata") top) metadata.0 left
-    (λ d there. (found_spelled (codes "metadata") d top json.0.1 there, found_depth 126 (codes "metadata") d top low there)) metadata.1 in
+    (λ d there. (found_encodable (codes "metadata") d top json.0.1 there, found_depth 126 (codes "metadata") d top low there)) metadata.1 in
     subst IsJson (validated_rest of top metadata.0 e metadata.2) ((whole.0, whole.1), deep_enough (members_depth (put_metadata metadata.0 (members_but top_names top))) whole.2)
 
 -- ---- the content

@@ -22,15 +22,15 @@ use Rattle.api_validation.specs.Envelope.{Expected, api_version_of, name_in}
 use Rattle.std.specs.declared.result.Result.{Result}
 use Rattle.lists.specs.declared.refusal.Refusal.{Refusal}
 use Rattle.api_request.specs.Validated.{Validated, and_then}
-use Rattle.verbs.specs.Machine.{ComesAfter, no_state, state_of_live, state_said}
-use Rattle.api_validation.specs.Naming.{marks_validated_by, names_validated, required_name}
+use Rattle.verbs.specs.Machine.{ComesAfter, no_state, state_of_existing, decoded_state}
+use Rattle.api_validation.specs.Naming.{labels_and_annotations_validated_by, names_validated, required_name}
 use Rattle.api_validation.specs.Options.{options_validated}
 use Rattle.api_validation.specs.Parameters.{parameters_validated}
-use Rattle.verbs.specs.Promise.{IsCalled, name_called}
-use Rattle.verbs.specs.Seen.{objects_in}
+use Rattle.verbs.specs.PromiseLaws.{IsCalled, name_called}
+use Rattle.verbs.specs.Views.{objects_in}
 use Rattle.api_validation.specs.Size.{size_validated}
-use Rattle.watchline.specs.Watches.{Source, from_view}
-use Rattle.verbs.specs.Step.{Creation, Intent, apply_validated, at_path, body_of, created_as, creation_validated, delete_validated, deleted_over, get_validated, intent_of, validated_at, validated_by, validated_over, as_it_stands, key_at, manager_for, not_there, object_validated_by, plan_for, planned_over, ownership_validated, printed, revisions_left, store_state, store_unless_same, there, there_for, update_validated, updated_by, updated_over, version_checked, version_come, collection_of, list_answered, list_validated, shown_by}
+use Rattle.watchline.specs.Watches.{HistoryWindow, from_view}
+use Rattle.verbs.specs.Step.{Creation, Intent, apply_plan, at_path, body_of, created_as, creation_validated, delete_plan, deleted_over, get_plan, intent_of, dispatch_type, dispatch_scope, dispatch_call, plan_without_change, key_at, manager_for, require_absent, dispatch_object, plan_for, planned_over, ownership_validated, printed, revisions_left, plan_put, plan_put_unless_same, require_found, require_object_of_status, update_plan, updated_by, updated_over, version_checked, version_reached, collection_of, list_answered, list_plan, shown_by}
 use Rattle.api_request.proofs.Checks.{change_in, no_err, ok_is, passed}
 
 -- and its key is one of those that Q says
@@ -47,43 +47,43 @@ name_is None name e = no_err _ name e
 name_is (Some n) name e = ap Some (ok_is n name e)
 
 module _ (current : ℕ) (objects : Objects) (Q : Key → Type 0) where
-  stored_fits : (t : ServedShape) (k : Key) (status : ℕ) (s : State) (p : Plan) → Q k → store_state t current k status s ≡ Ok p → Fits current objects Q p.change
+  stored_fits : (t : ServedShape) (k : Key) (status : ℕ) (s : State) (p : Plan) → Q k → plan_put t current k status s ≡ Ok p → Fits current objects Q p.change
   stored_fits t k status s p own e =
       let sized = passed (size_validated (printed t k (suc current) s)) _ p e in
       let left = passed (revisions_left current) _ p sized.2 in
       subst (Fits current objects Q) (ap change_in left.2) (refl, (λ gone. no_some _ gone), own)
 
-  over_fits : (t : ServedShape) (k : Key) (found : Option Object) (s : State) (p : Plan) → Q k → store_unless_same t current k found s ≡ Ok p → Fits current objects Q p.change
+  over_fits : (t : ServedShape) (k : Key) (found : Option Object) (s : State) (p : Plan) → Q k → plan_put_unless_same t current k found s ≡ Ok p → Fits current objects Q p.change
   over_fits t k None s p own e = stored_fits t k 201 s p own e
-  over_fits t k (Some o) s p own e = go (same_state s (state_said t.shape o.body)) e
+  over_fits t k (Some o) s p own e = go (same_state s (decoded_state t.shape o.body)) e
     where
-      go : (b : Bool) → cond b (Ok (as_it_stands o)) (store_state t current k 200 s) ≡ Ok p → Fits current objects Q p.change
+      go : (b : Bool) → cond b (Ok (plan_without_change o)) (plan_put t current k 200 s) ≡ Ok p → Fits current objects Q p.change
       go true f = subst (Fits current objects Q) (ap change_in f) tt
       go false f = stored_fits t k 200 s p own f
 
-  apply_fits : (by : Subresource) (t : ServedShape) (k : Key) (query : List ℕ) (body : Data) (p : Plan) → Q k → apply_validated by t current (fin.get objects k) k query body ≡ Ok p
+  apply_fits : (by : Subresource) (t : ServedShape) (k : Key) (query : List ℕ) (body : Data) (p : Plan) → Q k → apply_plan by t current (fin.get objects k) k query body ≡ Ok p
       → Fits current objects Q p.change
   apply_fits by t k query body p own e =
-      let live = fin.get objects k in
+      let existing = fin.get objects k in
       let intent = passed (intent_of (at_path t k Patch by) asked.Apply query body) _ p e in
       let named = passed (names_validated intent.0.subresource k.namespace k.name intent.0.rest) _ p intent.2 in
-      let found = passed (there_for intent.0.subresource t k.name live) _ p named.2 in
-      let version = passed (version_checked intent.0.version live) _ p found.2 in
+      let found = passed (require_object_of_status intent.0.subresource t k.name existing) _ p named.2 in
+      let version = passed (version_checked intent.0.version existing) _ p found.2 in
       let config = own_part intent.0.subresource intent.0.content in
-      let owned = passed (ownership_validated (api_version_of t) (state_of_live t live) config (manager_for apply_operation intent.0) intent.0.is_forced) _ p version.2 in
-      over_fits t k live owned.0 p own owned.2
+      let owned = passed (ownership_validated (api_version_of t) (state_of_existing t existing) config (manager_for apply_operation intent.0) intent.0.is_forced) _ p version.2 in
+      over_fits t k existing owned.0 p own owned.2
 
   updated_fits : (t : ServedShape) (k : Key) (found : Option Object) (intent : Intent) (p : Plan) → Q k → updated_over t current k found intent ≡ Ok p → Fits current objects Q p.change
   updated_fits t k None intent p own e = no_err _ p e
   updated_fits t k (Some o) intent p own e =
       let version = passed (version_checked intent.version (Some o)) _ p e in
-      over_fits t k (Some o) (updated_by intent (state_said t.shape o.body)) p own version.2
+      over_fits t k (Some o) (updated_by intent (decoded_state t.shape o.body)) p own version.2
 
-  update_fits : (by : Subresource) (t : ServedShape) (k : Key) (query : List ℕ) (body : Data) (p : Plan) → Q k → update_validated by t current (fin.get objects k) k query body ≡ Ok p
+  update_fits : (by : Subresource) (t : ServedShape) (k : Key) (query : List ℕ) (body : Data) (p : Plan) → Q k → update_plan by t current (fin.get objects k) k query body ≡ Ok p
       → Fits current objects Q p.change
   update_fits by t k query body p own e =
       let intent = passed (intent_of (at_path t k Put by) asked.Put query body) _ p e in
-      let marks = passed (marks_validated_by intent.0.subresource intent.0.rest) _ p intent.2 in
+      let marks = passed (labels_and_annotations_validated_by intent.0.subresource intent.0.rest) _ p intent.2 in
       updated_fits t k (fin.get objects k) intent.0 p own marks.2
 
   deleted_fits : (t : ServedShape) (k : Key) (version : Option ℕ) (found : Option Object) (p : Plan) → Q k → fin.get objects k ≡ found → deleted_over t current k found version ≡ Ok p → Fits current objects Q p.change
@@ -93,17 +93,17 @@ module _ (current : ℕ) (objects : Objects) (Q : Key → Type 0) where
       let left = passed (revisions_left current) _ p checked.2 in
       subst (Fits current objects Q) (ap change_in left.2) (refl, (λ gone. ap is_some is), own)
 
-  delete_fits : (t : ServedShape) (k : Key) (query : List ℕ) (body : Option Data) (p : Plan) → Q k → delete_validated t current (fin.get objects k) k query body ≡ Ok p → Fits current objects Q p.change
+  delete_fits : (t : ServedShape) (k : Key) (query : List ℕ) (body : Option Data) (p : Plan) → Q k → delete_plan t current (fin.get objects k) k query body ≡ Ok p → Fits current objects Q p.change
   delete_fits t k query body p own e =
       let version = passed (options_validated body) _ p e in
       let values = passed (parameters_validated asked.Delete query) _ p version.2 in
       deleted_fits t k version.0 (fin.get objects k) p own refl values.2
 
-  get_fits : (t : ServedShape) (k : Key) (query : List ℕ) (p : Plan) → get_validated t current (fin.get objects k) k query ≡ Ok p → Fits current objects Q p.change
+  get_fits : (t : ServedShape) (k : Key) (query : List ℕ) (p : Plan) → get_plan t current (fin.get objects k) k query ≡ Ok p → Fits current objects Q p.change
   get_fits t k query p e =
       let values = passed (parameters_validated asked.Get query) _ p e in
-      let o = passed (there t k.name (fin.get objects k)) _ p values.2 in
-      let come = passed (version_come values.0.version current) _ p o.2 in
+      let o = passed (require_found t k.name (fin.get objects k)) _ p values.2 in
+      let come = passed (version_reached values.0.version current) _ p o.2 in
       subst (Fits current objects Q) (ap change_in come.2) tt
 
   create_fits : (t : ServedShape) (kind : ℕ) (namespace query : List ℕ) (body : Data) (p : Plan) → ((name : List ℕ) → name_in body ≡ Some name → Q (record { kind = kind; namespace = namespace; name = name }))
@@ -117,10 +117,10 @@ module _ (current : ℕ) (objects : Objects) (Q : Key → Type 0) where
       let made : Creation = record { key = record { kind = kind; namespace = namespace; name = name.0 }; intent = intent.0 } in
       let same : made ≡ creation.0 = ok_is made creation.0 name.2 in
       let named = passed (names_validated creation.0.intent.subresource k.namespace k.name creation.0.intent.rest) _ p creation.2 in
-      let free = passed (not_there t k.name (fin.get objects k)) _ p named.2 in
+      let free = passed (require_absent t k.name (fin.get objects k)) _ p named.2 in
       stored_fits t k 201 (updated_by creation.0.intent no_state) p (subst (λ (c : Creation). Q c.key) same (own name.0 (name_is (name_in body) name.0 name.1))) free.2
 
-module _ (s : Source) (call : Call) where
+module _ (s : HistoryWindow) (call : Call) where
   abbrev current : ℕ
   current = s.current
 
@@ -135,7 +135,7 @@ module _ (s : Source) (call : Call) where
       let body = passed (body_of call.body) validated p e in
       fits body.0 (body_is call.body body.0 body.1) p body.2
 
-  object_fits : (w : Method) (by : Subresource) (t : ServedShape) (k : Key) → IsCalled call k → AllFit (object_validated_by w by t current (fin.get objects k) k call.query call.body)
+  object_fits : (w : Method) (by : Subresource) (t : ServedShape) (k : Key) → IsCalled call k → AllFit (dispatch_object w by t current (fin.get objects k) k call.query call.body)
   object_fits Get by t k own p e = get_fits current objects (IsCalled call) t k call.query p e
   object_fits Post by t k own p e = no_err _ p e
   object_fits Put by t k own p e = with_body _ (λ body given q f. update_fits current objects (IsCalled call) by t k call.query body q own f) p e
@@ -144,7 +144,7 @@ module _ (s : Source) (call : Call) where
   object_fits Delete Status t k own p e = no_err _ p e
 
   -- a list changes nothing
-  list_fits : (t : ServedShape) (kind : ℕ) (namespace : Option (List ℕ)) → AllFit (list_validated t s kind namespace call.query)
+  list_fits : (t : ServedShape) (kind : ℕ) (namespace : Option (List ℕ)) → AllFit (list_plan t s kind namespace call.query)
   list_fits t kind namespace p e =
       let values = passed (parameters_validated asked.List call.query) _ p e in
       answered (shown_by s (collection_of t kind namespace) values.0 values.0.watch) values.2
@@ -153,7 +153,7 @@ module _ (s : Source) (call : Call) where
       answered (Ok answer) f = subst (Fits current objects (IsCalled call)) (ap change_in f) tt
       answered (Err refusal) f = no_err _ p f
 
-  all_fits : (w : Method) (t : ServedShape) → AllFit (validated_by of_all w t s call)
+  all_fits : (w : Method) (t : ServedShape) → AllFit (dispatch_scope of_all w t s call)
   all_fits Get t p e = list_fits t call.target.kind None p e
   all_fits Post t p e = no_err _ p e
   all_fits Put t p e = no_err _ p e
@@ -161,7 +161,7 @@ module _ (s : Source) (call : Call) where
   all_fits Delete t p e = no_err _ p e
 
   collection_fits : (w : Method) (t : ServedShape) (namespace : List ℕ) → ((name : List ℕ) → option_and_then name_in call.body ≡ Some name → IsCalled call (key_at call namespace name))
-      → AllFit (validated_by (of_namespace namespace) w t s call)
+      → AllFit (dispatch_scope (of_namespace namespace) w t s call)
   collection_fits Post t namespace own p e = with_body _ (λ body given q f. create_fits current objects (IsCalled call) t call.target.kind namespace call.query body q (λ name is. own name (ap (option_and_then name_in) given ∙ is)) f) p e
   collection_fits Get t namespace own p e = list_fits t call.target.kind (Some namespace) p e
   collection_fits Put t namespace own p e = no_err _ p e
@@ -174,24 +174,24 @@ module _ (s : Source) (call : Call) where
   body_name : (name : List ℕ) → call.target.name ≡ None → option_and_then name_in call.body ≡ Some name → name_called call ≡ Some name
   body_name name is given = ap (λ o. option_or o (option_and_then name_in call.body)) is ∙ given
 
-  in_fits : (t : ServedShape) (namespace name : Option (List ℕ)) → call.target.namespace ≡ namespace → call.target.name ≡ name → AllFit (validated_at (Some t) (scope_of namespace name call.target.status) s call)
-  in_fits t None None placed is p e = all_fits call.target.method t p e
-  in_fits t None (Some name) placed is p e = no_err _ p e
-  in_fits t (Some namespace) None placed is p e =
-      collection_fits call.target.method t namespace (λ name given. record { kind = refl; namespace = placed; name = body_name name is given }) p e
-  in_fits t (Some namespace) (Some name) placed is p e =
-      object_fits call.target.method (subresource_of call.target.status) t (key_at call namespace name) (record { kind = refl; namespace = placed; name = path_name name is }) p e
+  in_fits : (t : ServedShape) (namespace name : Option (List ℕ)) → call.target.namespace ≡ namespace → call.target.name ≡ name → AllFit (dispatch_type (Some t) (scope_of namespace name call.target.status) s call)
+  in_fits t None None well_typed is p e = all_fits call.target.method t p e
+  in_fits t None (Some name) well_typed is p e = no_err _ p e
+  in_fits t (Some namespace) None well_typed is p e =
+      collection_fits call.target.method t namespace (λ name given. record { kind = refl; namespace = well_typed; name = body_name name is given }) p e
+  in_fits t (Some namespace) (Some name) well_typed is p e =
+      object_fits call.target.method (subresource_of call.target.status) t (key_at call namespace name) (record { kind = refl; namespace = well_typed; name = path_name name is }) p e
 
-  at_fits : (found : Option ServedShape) → AllFit (validated_at found (scope_of call.target.namespace call.target.name call.target.status) s call)
+  at_fits : (found : Option ServedShape) → AllFit (dispatch_type found (scope_of call.target.namespace call.target.name call.target.status) s call)
   at_fits None p e = no_err _ p e
   at_fits (Some t) p e = in_fits t call.target.namespace call.target.name refl refl p e
 
-  told_fits : (types : List ServedShape) (j : Validated Plan) → validated_over types s call ≡ j → Fits current objects (IsCalled call) (plan_for j).change
-  told_fits types (Err d) e = tt
-  told_fits types (Ok p) e = at_fits (slice_get types call.target.kind) p e
+  reported_fits : (types : List ServedShape) (j : Validated Plan) → dispatch_call types s call ≡ j → Fits current objects (IsCalled call) (plan_for j).change
+  reported_fits types (Err d) e = tt
+  reported_fits types (Ok p) e = at_fits (slice_get types call.target.kind) p e
 
   pub planned_fits : (types : List ServedShape) → Fits current objects (IsCalled call) (planned_over types s call).change
-  planned_fits types = told_fits types (validated_over types s call) refl
+  planned_fits types = reported_fits types (dispatch_call types s call) refl
 
 if_comes : (v : View) (Q : Key → Type 0) (change : Option Change) → Fits v.current (objects_in v) Q change → IfSome change (ComesAfter v)
 if_comes v Q None is = tt

@@ -21,10 +21,10 @@ use Rattle.objects.specs.State.{State}
 use Rattle.objects.proofs.Taken.{no_some, same_some}
 use Rattle.ownership.specs.Carry.{carried_state}
 use Rattle.verbs.specs.declared.fault.RetypeFault.{RetypeFault}
-use Rattle.verbs.specs.Gathered.{AreReadable, AreWritable, IsReadableEntry, IsTooMany, carried_at, gathered}
-use Rattle.verbs.specs.Machine.{AreTexts, IsReadable, identity_of, state_said}
-use Rattle.verbs.specs.Retyping.{RetypeRefusal, is_changed, is_text, text_under, too_few_revisions, writes_from}
-use Rattle.verbs.specs.Seen.{retype_refusal}
+use Rattle.verbs.specs.GatheredViews.{AreReadable, AreWritable, IsReadableEntry, IsTooMany, carried_at, gathered}
+use Rattle.verbs.specs.Machine.{AreTexts, IsReadable, identity_of, decoded_state}
+use Rattle.verbs.specs.Retyping.{RetypeRefusal, is_changed, text_unchanged, text_under, too_few_revisions, writes_from}
+use Rattle.verbs.specs.Views.{retype_refusal}
 use Rattle.verbs.specs.Step.{text_at}
 use Rattle.verbs.proofs.Changes.{all_push}
 use Rattle.verbs.proofs.ByTypes.{all_entries, all_types, is_before, no_type, of_types_before, one_more_type}
@@ -39,39 +39,39 @@ Writes = List (Key × Option (List ℕ))
 
 -- what it is carried to, by the schemas of its two types
 pub carried_is : (a b : Option ServedShape) (t : ServedShape) (s n : Shape) (body : List ℕ) (state new : State) → Some t ≡ a → Some s ≡ option_map (λ x. x.shape) a → Some n ≡ option_map (λ x. x.shape) b
-    → state ≡ state_said t.shape body → new ≡ carried_state s n state
-    → option_and_then (λ x. option_map (λ u. carried_state x.shape u.shape (state_said x.shape body)) b) a ≡ Some new
+    → state ≡ decoded_state t.shape body → new ≡ carried_state s n state
+    → option_and_then (λ x. option_map (λ u. carried_state x.shape u.shape (decoded_state x.shape body)) b) a ≡ Some new
 carried_is None b t s n body state new there old next said is = no_some t there
 carried_is (Some x) None t s n body state new there old next said is = no_some n next
 carried_is (Some x) (Some u) t s n body state new there old next said is =
     let same : t ≡ x = same_some t x there in
-    ap (λ (y : Shape). Some (carried_state y u.shape (state_said x.shape body))) (sym (same_some s x.shape old))
-    ∙ ap (λ (y : Shape). Some (carried_state s y (state_said x.shape body))) (sym (same_some n u.shape next))
-    ∙ ap (λ (y : State). Some (carried_state s n y)) (ap (λ (y : ServedShape). state_said y.shape body) (sym same) ∙ sym said)
+    ap (λ (y : Shape). Some (carried_state y u.shape (decoded_state x.shape body))) (sym (same_some s x.shape old))
+    ∙ ap (λ (y : Shape). Some (carried_state s y (decoded_state x.shape body))) (sym (same_some n u.shape next))
+    ∙ ap (λ (y : State). Some (carried_state s n y)) (ap (λ (y : ServedShape). decoded_state y.shape body) (sym same) ∙ sym said)
     ∙ ap Some (sym is)
 
 -- it has no type where its new one isn't there
-pub has_new_type : (a b : Option ServedShape) (body : List ℕ) (new : State) → option_and_then (λ x. option_map (λ u. carried_state x.shape u.shape (state_said x.shape body)) b) a ≡ Some new → None ≡ b → ⊥
+pub has_new_type : (a b : Option ServedShape) (body : List ℕ) (new : State) → option_and_then (λ x. option_map (λ u. carried_state x.shape u.shape (decoded_state x.shape body)) b) a ≡ Some new → None ≡ b → ⊥
 has_new_type None b body new is none = no_some new (sym is)
 has_new_type (Some x) None body new is none = no_some new (sym is)
 has_new_type (Some x) (Some u) body new is none = no_some u (sym none)
 
-module _ (types others : List ServedShape) (e : Key × Object) (new : State) (u : ServedShape) (carries : carried_at types others e ≡ Some new) (there : slice_get others e.0.kind ≡ Some u) where
+module _ (types next_types : List ServedShape) (e : Key × Object) (new : State) (u : ServedShape) (carries : carried_at types next_types e ≡ Some new) (there : slice_get next_types e.0.kind ≡ Some u) where
   -- its text under its new type
-  pub text_is : (r : ℕ) → text_under types others r e.0 e.1 ≡ Some (text_at u e.0 r new)
-  text_is r = go (slice_get types e.0.kind) (slice_get others e.0.kind) carries there
+  pub text_is : (r : ℕ) → text_under types next_types r e.0 e.1 ≡ Some (text_at u e.0 r new)
+  text_is r = go (slice_get types e.0.kind) (slice_get next_types e.0.kind) carries there
     where
-      go : (a b : Option ServedShape) → option_and_then (λ x. option_map (λ v. carried_state x.shape v.shape (state_said x.shape e.1.body)) b) a ≡ Some new → b ≡ Some u
-          → option_and_then (λ x. option_map (λ v. text_at v e.0 r (carried_state x.shape v.shape (state_said x.shape e.1.body))) b) a ≡ Some (text_at u e.0 r new)
+      go : (a b : Option ServedShape) → option_and_then (λ x. option_map (λ v. carried_state x.shape v.shape (decoded_state x.shape e.1.body)) b) a ≡ Some new → b ≡ Some u
+          → option_and_then (λ x. option_map (λ v. text_at v e.0 r (carried_state x.shape v.shape (decoded_state x.shape e.1.body))) b) a ≡ Some (text_at u e.0 r new)
       go None b is same = no_some new (sym is)
       go (Some x) None is same = no_some new (sym is)
       go (Some x) (Some v) is same =
-          ap (λ (y : State). Some (text_at v e.0 r y)) (same_some (carried_state x.shape v.shape (state_said x.shape e.1.body)) new is)
+          ap (λ (y : State). Some (text_at v e.0 r y)) (same_some (carried_state x.shape v.shape (decoded_state x.shape e.1.body)) new is)
           ∙ ap (λ (y : ServedShape). Some (text_at y e.0 r new)) (same_some v u same)
 
   -- whether it changes, by what is printed at its own revision
-  pub change_is : (text : List ℕ) → text ≡ text_at u e.0 e.1.revision new → is_changed types others e ≡ not (bytes_eq text e.1.body)
-  change_is text printed = ap (λ o. not (is_text o e.1.body)) (text_is e.1.revision ∙ ap Some (sym printed))
+  pub change_is : (text : List ℕ) → text ≡ text_at u e.0 e.1.revision new → is_changed types next_types e ≡ not (bytes_eq text e.1.body)
+  change_is text printed = ap (λ o. not (text_unchanged o e.1.body)) (text_is e.1.revision ∙ ap Some (sym printed))
 
 pub same_shape : (a : Option ServedShape) (t : ServedShape) (s : Shape) → Some t ≡ a → Some s ≡ option_map (λ x. x.shape) a → s ≡ t.shape
 same_shape None t s there is = no_some t there
@@ -99,42 +99,42 @@ more_too_many fault a b le many = go (retype_refusal fault) many
     go None none = tt
     go (Some why) some = let high : last_revision < a = some.1 in (some.0, omega (arith, le, high))
 
-module _ (types others : List ServedShape) where
+module _ (types next_types : List ServedShape) where
   abbrev pub Gathered : ℕ → Entries → Writes
-  Gathered = gathered types others
+  Gathered = gathered types next_types
 
-  writes_length : (r : ℕ) (es : Entries) → length (writes_from types others r es) ≡ length es
+  writes_length : (r : ℕ) (es : Entries) → length (writes_from types next_types r es) ≡ length es
   writes_length r [] = refl
   writes_length r (e ∷ es) = ap suc (writes_length (suc r) es)
 
-  writes_append : (r : ℕ) (es fs : Entries) → writes_from types others r (es ++ fs) ≡ writes_from types others r es ++ writes_from types others (r + length es) fs
-  writes_append r [] fs = let same : r ≡ r + 0 = omega arith in ap (λ (n : ℕ). writes_from types others n fs) same
+  writes_append : (r : ℕ) (es fs : Entries) → writes_from types next_types r (es ++ fs) ≡ writes_from types next_types r es ++ writes_from types next_types (r + length es) fs
+  writes_append r [] fs = let same : r ≡ r + 0 = omega arith in ap (λ (n : ℕ). writes_from types next_types n fs) same
   writes_append r (e ∷ es) fs =
       let same : suc r + length es ≡ r + suc (length es) = omega arith in
-      ap (λ ws. (e.0, text_under types others (suc r) e.0 e.1) ∷ ws)
-      (writes_append (suc r) es fs ∙ ap (λ (n : ℕ). writes_from types others (suc r) es ++ writes_from types others n fs) same)
+      ap (λ ws. (e.0, text_under types next_types (suc r) e.0 e.1) ∷ ws)
+      (writes_append (suc r) es fs ∙ ap (λ (n : ℕ). writes_from types next_types (suc r) es ++ writes_from types next_types n fs) same)
 
-  pub gathered_length : (r : ℕ) (es : Entries) → length (Gathered r es) ≡ length (filter (is_changed types others) es)
-  gathered_length r es = writes_length r (filter (is_changed types others) es)
+  pub gathered_length : (r : ℕ) (es : Entries) → length (Gathered r es) ≡ length (filter (is_changed types next_types) es)
+  gathered_length r es = writes_length r (filter (is_changed types next_types) es)
 
   pub gathered_append : (r : ℕ) (es fs : Entries) → Gathered r (es ++ fs) ≡ Gathered r es ++ Gathered (r + length (Gathered r es)) fs
   gathered_append r es fs =
-      ap (writes_from types others r) (filter-append (is_changed types others) es fs)
-      ∙ writes_append r (filter (is_changed types others) es) (filter (is_changed types others) fs)
-      ∙ ap (λ (n : ℕ). Gathered r es ++ writes_from types others (r + n) (filter (is_changed types others) fs)) (sym (gathered_length r es))
+      ap (writes_from types next_types r) (filter-append (is_changed types next_types) es fs)
+      ∙ writes_append r (filter (is_changed types next_types) es) (filter (is_changed types next_types) fs)
+      ∙ ap (λ (n : ℕ). Gathered r es ++ writes_from types next_types (r + n) (filter (is_changed types next_types) fs)) (sym (gathered_length r es))
 
-  gathered_one : (r : ℕ) (e : Key × Object) (b : Bool) → is_changed types others e ≡ b → Gathered r (e ∷ []) ≡ cond b ((e.0, text_under types others (suc r) e.0 e.1) ∷ []) []
-  gathered_one r e true is = ap (λ b. writes_from types others r (cond b (e ∷ []) [])) is
-  gathered_one r e false is = ap (λ b. writes_from types others r (cond b (e ∷ []) [])) is
+  gathered_one : (r : ℕ) (e : Key × Object) (b : Bool) → is_changed types next_types e ≡ b → Gathered r (e ∷ []) ≡ cond b ((e.0, text_under types next_types (suc r) e.0 e.1) ∷ []) []
+  gathered_one r e true is = ap (λ b. writes_from types next_types r (cond b (e ∷ []) [])) is
+  gathered_one r e false is = ap (λ b. writes_from types next_types r (cond b (e ∷ []) [])) is
 
   -- nothing is added where the text stays
-  pub one_stays : (r : ℕ) (ws : Writes) (e : Key × Object) → is_changed types others e ≡ false → ws ≡ ws ++ Gathered r (e ∷ [])
+  pub one_stays : (r : ℕ) (ws : Writes) (e : Key × Object) → is_changed types next_types e ≡ false → ws ≡ ws ++ Gathered r (e ∷ [])
   one_stays r ws e is = sym (ap (λ l. ws ++ l) (gathered_one r e false is) ∙ append-nil ws)
 
   -- and else its new text
-  pub one_changes : (r next : ℕ) (e : Key × Object) (text : List ℕ) → next ≡ suc r → is_changed types others e ≡ true → text_under types others next e.0 e.1 ≡ Some text → Gathered r (e ∷ []) ≡ (e.0, Some text) ∷ []
+  pub one_changes : (r next : ℕ) (e : Key × Object) (text : List ℕ) → next ≡ suc r → is_changed types next_types e ≡ true → text_under types next_types next e.0 e.1 ≡ Some text → Gathered r (e ∷ []) ≡ (e.0, Some text) ∷ []
   one_changes r next e text is changes said =
-      gathered_one r e true changes ∙ ap (λ o. (e.0, o) ∷ []) (ap (λ (n : ℕ). text_under types others n e.0 e.1) (sym is) ∙ said)
+      gathered_one r e true changes ∙ ap (λ o. (e.0, o) ∷ []) (ap (λ (n : ℕ). text_under types next_types n e.0 e.1) (sym is) ∙ said)
 
   -- ---- one type after the other
 
@@ -172,9 +172,9 @@ module _ (types others : List ServedShape) where
       counted : r + length ws + length added ≤ r + length (Gathered r (fin.entries s))
       counted =
           let parts : length (ws ++ added) ≡ length ws + length added = length_added ws added in
-          let whole : length (ws ++ added) ≡ length (filter (is_changed types others) (of_types_before (suc kind) s)) = ap length (type_added r kind s ws (ws ++ added) so_far refl) ∙ gathered_length r (of_types_before (suc kind) s) in
-          let under : length (filter (is_changed types others) (of_types_before (suc kind) s)) ≤ length (filter (is_changed types others) (fin.entries s)) = fewer (is_changed types others) (is_before (suc kind)) (fin.entries s) in
-          let all : length (Gathered r (fin.entries s)) ≡ length (filter (is_changed types others) (fin.entries s)) = gathered_length r (fin.entries s) in
+          let whole : length (ws ++ added) ≡ length (filter (is_changed types next_types) (of_types_before (suc kind) s)) = ap length (type_added r kind s ws (ws ++ added) so_far refl) ∙ gathered_length r (of_types_before (suc kind) s) in
+          let under : length (filter (is_changed types next_types) (of_types_before (suc kind) s)) ≤ length (filter (is_changed types next_types) (fin.entries s)) = fewer (is_changed types next_types) (is_before (suc kind)) (fin.entries s) in
+          let all : length (Gathered r (fin.entries s)) ≡ length (filter (is_changed types next_types) (fin.entries s)) = gathered_length r (fin.entries s) in
           omega (arith, parts, whole, under, all)
 
   -- ---- one object after the other
@@ -184,19 +184,19 @@ module _ (types others : List ServedShape) where
 
   pub entry_added : (r : ℕ) (ws more all : Writes) (e : Key × Object) (es : Entries) → more ≡ ws ++ Gathered (r + length ws) (e ∷ []) → ws ++ Gathered (r + length ws) (e ∷ es) ≡ all
       → more ++ Gathered (r + length more) es ≡ all
-  entry_added r ws more all e es added told =
+  entry_added r ws more all e es added reported =
       let one : Writes = Gathered (r + length ws) (e ∷ []) in
       let place : r + length (ws ++ one) ≡ r + length ws + length one = (let n : length (ws ++ one) ≡ length ws + length one = length_added ws one in omega (arith, n)) in
       ap (λ (l : Writes). l ++ Gathered (r + length l) es) added
       ∙ ap (λ (n : ℕ). (ws ++ one) ++ Gathered n es) place
       ∙ append_assoc ws one (Gathered (r + length ws + length one) es)
       ∙ ap (λ (l : Writes). ws ++ l) (sym (split (r + length ws) e es))
-      ∙ told
+      ∙ reported
 
   -- too many with one of these objects are too many with all
   pub too_many_entries : (r : ℕ) (ws first : Writes) (e : Key × Object) (es all : Entries) (fault : RetypeFault) → ws ++ Gathered (r + length ws) (e ∷ es) ≡ first ++ Gathered (r + length first) all
       → IsTooMany (r + length ws + length (Gathered (r + length ws) (e ∷ []))) fault → IsTooMany (r + length first + length (Gathered (r + length first) all)) fault
-  too_many_entries r ws first e es all fault told is = more_too_many fault _ _ counted is
+  too_many_entries r ws first e es all fault reported is = more_too_many fault _ _ counted is
     where
       one : Writes
       one = Gathered (r + length ws) (e ∷ [])
@@ -209,9 +209,9 @@ module _ (types others : List ServedShape) where
           let parts : length (one ++ rest) ≡ length one + length rest = length_added one rest in
           let left : length (ws ++ Gathered (r + length ws) (e ∷ es)) ≡ length ws + length (Gathered (r + length ws) (e ∷ es)) = length_added ws (Gathered (r + length ws) (e ∷ es)) in
           let here : length (Gathered (r + length ws) (e ∷ es)) ≡ length (one ++ rest) = ap length (split (r + length ws) e es) in
-          let right : length (first ++ Gathered (r + length first) all) ≡ length first + length (Gathered (r + length first) all) = length_added first (Gathered (r + length first) all) in
-          let same : length (ws ++ Gathered (r + length ws) (e ∷ es)) ≡ length (first ++ Gathered (r + length first) all) = ap length told in
-          omega (arith, parts, left, here, right, same)
+          let coherent : length (first ++ Gathered (r + length first) all) ≡ length first + length (Gathered (r + length first) all) = length_added first (Gathered (r + length first) all) in
+          let same : length (ws ++ Gathered (r + length ws) (e ∷ es)) ≡ length (first ++ Gathered (r + length first) all) = ap length reported in
+          omega (arith, parts, left, here, coherent, same)
 
 -- ---- where each type that has an object is there
 

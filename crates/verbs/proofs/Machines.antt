@@ -5,7 +5,7 @@ use Rattle.std.specs.declared.result.Result.{Result}
 use Rattle.std.specs.FinMap as fin
 use Rattle.std.specs.List.{AllByRecursion}
 use Rattle.api_types.specs.TypesFile.{ServedShape}
-use Rattle.history.specs.History.{History, Objects, standing, state_at}
+use Rattle.history.specs.History.{History, Objects, current_objects, state_at}
 use Rattle.history.specs.Seen.{selected}
 use Rattle.history.specs.View.{state_in, view}
 use Rattle.history.proofs.Views.{view_states}
@@ -16,8 +16,8 @@ use Rattle.lists.specs.declared.refusal.Refusal.TheVariants.{Expired}
 use Rattle.lists.proofs.Bounds.{list_same}
 use Rattle.params.specs.Values.{Values, Watch}
 use Rattle.params.specs.declared.params.Asked.TheVariants as asked
-use Rattle.watchline.specs.declared.opening.Initial.{Initial}
-use Rattle.watchline.specs.declared.opening.Initial.TheVariants.{Changes}
+use Rattle.watchline.specs.declared.opening.InitialEvents.{InitialEvents}
+use Rattle.watchline.specs.declared.opening.InitialEvents.TheVariants.{Changes}
 use Rattle.watchline.specs.Opening.{WatchFrom, from_parts, initial_in, initial_of, started, opened_by, starts}
 use Rattle.watchline.specs.Watches.{from_history, from_view}
 use Rattle.history.proofs.Wholes.{whole_compacts, whole_fresh}
@@ -28,8 +28,8 @@ use Rattle.api_request.specs.Validated.{Validated, and_then}
 use Rattle.api_request.specs.declared.method.Method.{Method}
 use Rattle.api_request.specs.declared.method.Method.TheVariants.{Get, Post, Put, Patch, Delete}
 use Rattle.verbs.specs.Machine.{IsMachine}
-use Rattle.verbs.specs.Promise.{CallsKeepMachines, CompactionsKeepMachines, MachinesBegin, PlansByViews}
-use Rattle.verbs.specs.Step.{body_of, collection_of, created_as, creation_validated, key_at, list_answered, object_validated_by, page_shown, plan_for, shown_by, step, steps, validated_at, validated_by, validated_over, watch_shown}
+use Rattle.verbs.specs.PromiseLaws.{CallsKeepMachines, CompactionsKeepMachines, MachinesBegin, PlansByViews}
+use Rattle.verbs.specs.Step.{body_of, collection_of, created_as, creation_validated, key_at, list_answered, dispatch_object, page_shown, plan_for, shown_by, step, steps, dispatch_type, dispatch_scope, dispatch_call, watch_shown}
 use Rattle.verbs.proofs.Changes.{is_history, no_texts}
 use Rattle.verbs.proofs.Promise.{steps_keep_machines}
 
@@ -47,22 +47,22 @@ pub compactions_keep_machines : CompactionsKeepMachines
 compactions_keep_machines types m c is low high = record { first = is.first; whole = whole_compacts is.first m c is.whole low high; shapes = is.shapes; texts = is.texts; stand = is.stand }
 
 -- what stands is seen in the view
-pub standing_seen : (types : List ServedShape) (m : History) → IsMachine types m → state_in (view m) m.current ≡ standing m
-standing_seen types m is = view_states m m.current (is_history types m is) is.whole.low
+pub current_objects_seen : (types : List ServedShape) (m : History) → IsMachine types m → state_in (view m) m.current ≡ current_objects m
+current_objects_seen types m is = view_states m m.current (is_history types m is) is.whole.low
 
 -- and so are the answers to lists and watches of it
 module _ (types : List ServedShape) (m : History) (is : IsMachine types m) where
   module _ (kind : ℕ) (namespace : Option (List ℕ)) (values : Values) (watch : Watch) where
     initial_seen : initial_in (from_view (view m)) kind namespace values.selector ≡ initial_in (from_history m) kind namespace values.selector
-    initial_seen = ap (λ (objects : Objects). initial_of (fin.entries (selected (selection_of kind namespace values.selector) objects))) (standing_seen types m is)
+    initial_seen = ap (λ (objects : Objects). initial_of (fin.entries (selected (selection_of kind namespace values.selector) objects))) (current_objects_seen types m is)
 
-    abbrev begins : Result (ℕ × Initial) Refusal → Result WatchFrom Refusal
+    abbrev begins : Result (ℕ × InitialEvents) Refusal → Result WatchFrom Refusal
     begins = opened_by (from_parts kind namespace values.selector watch)
 
     begins_seen : (version : Option ℕ) → begins (starts (from_view (view m)) version (initial_in (from_view (view m)) kind namespace values.selector))
         ≡ begins (starts (from_history m) version (initial_in (from_history m) kind namespace values.selector))
-    begins_seen None = ap (λ (initial : Initial). begins (Ok (m.current, initial))) initial_seen
-    begins_seen (Some v) = ap (λ (initial : Initial). begins (cond (v == 0) (Ok (m.current, initial)) (cond (nat_lt v m.compacted) (Err (Expired v m.compacted)) (Ok (v, Changes))))) initial_seen
+    begins_seen None = ap (λ (initial : InitialEvents). begins (Ok (m.current, initial))) initial_seen
+    begins_seen (Some v) = ap (λ (initial : InitialEvents). begins (cond (v == 0) (Ok (m.current, initial)) (cond (nat_lt v m.compacted) (Err (Expired v m.compacted)) (Ok (v, Changes))))) initial_seen
 
     opened_seen : started (from_view (view m)) kind namespace values watch ≡ started (from_history m) kind namespace values watch
     opened_seen = begins_seen values.version
@@ -78,7 +78,7 @@ module _ (types : List ServedShape) (m : History) (is : IsMachine types m) where
   listed_seen t kind namespace (Ok values) = ap list_answered (shown_seen (collection_of t kind namespace) values values.watch)
   listed_seen t kind namespace (Err d) = refl
 
-  by_seen : (scope : Scope) (w : Method) (t : ServedShape) (call : Call) → validated_by scope w t (from_view (view m)) call ≡ validated_by scope w t (from_history m) call
+  by_seen : (scope : Scope) (w : Method) (t : ServedShape) (call : Call) → dispatch_scope scope w t (from_view (view m)) call ≡ dispatch_scope scope w t (from_history m) call
   by_seen of_all Get t call = listed_seen t call.target.kind None (parameters_validated asked.List call.query)
   by_seen of_all Post t call = refl
   by_seen of_all Put t call = refl
@@ -87,19 +87,19 @@ module _ (types : List ServedShape) (m : History) (is : IsMachine types m) where
   by_seen (of_namespace namespace) Get t call = listed_seen t call.target.kind (Some namespace) (parameters_validated asked.List call.query)
   by_seen (of_namespace namespace) Post t call =
       ap (λ (os : Objects). and_then (body_of call.body) (λ body. and_then (creation_validated t call.target.kind namespace call.query body) (λ c. created_as t m.current (fin.get os c.key) c.key c.intent)))
-      (standing_seen types m is)
+      (current_objects_seen types m is)
   by_seen (of_namespace namespace) Put t call = refl
   by_seen (of_namespace namespace) Patch t call = refl
   by_seen (of_namespace namespace) Delete t call = refl
   by_seen (of_object namespace name subresource) w t call =
-      ap (λ (os : Objects). object_validated_by w subresource t m.current (fin.get os (key_at call namespace name)) (key_at call namespace name) call.query call.body) (standing_seen types m is)
+      ap (λ (os : Objects). dispatch_object w subresource t m.current (fin.get os (key_at call namespace name)) (key_at call namespace name) call.query call.body) (current_objects_seen types m is)
 
-  at_seen : (found : Option ServedShape) (scope : Option Scope) (call : Call) → validated_at found scope (from_view (view m)) call ≡ validated_at found scope (from_history m) call
+  at_seen : (found : Option ServedShape) (scope : Option Scope) (call : Call) → dispatch_type found scope (from_view (view m)) call ≡ dispatch_type found scope (from_history m) call
   at_seen None scope call = refl
   at_seen (Some t) None call = refl
   at_seen (Some t) (Some scope) call = by_seen scope call.target.method t call
 
-  pub over_seen : (call : Call) → validated_over types (from_view (view m)) call ≡ validated_over types (from_history m) call
+  pub over_seen : (call : Call) → dispatch_call types (from_view (view m)) call ≡ dispatch_call types (from_history m) call
   over_seen call = at_seen (slice_get types call.target.kind) (scope_of call.target.namespace call.target.name call.target.status) call
 
 pub plans_by_views : PlansByViews

@@ -21,27 +21,27 @@ use Rattle.api_request.specs.Json.{IsJsonBody}
 use Rattle.api_request.specs.Calls.{Call, Plan}
 use Rattle.verbs.specs.Machine.{AreTexts, IsMachine, IsNext, IsReadable, after, identity_of}
 use Rattle.verbs.proofs.Changes.{all_push, is_history, machine_next}
-use Rattle.verbs.proofs.Machines.{compactions_keep_machines, over_seen, standing_seen}
+use Rattle.verbs.proofs.Machines.{compactions_keep_machines, over_seen, current_objects_seen}
 use Rattle.verbs.proofs.Promise.{plans_come_next}
-use Rattle.api_request.specs.Seen.{body_seen, call_of, change_of, plan_of}
-use Rattle.verbs.specs.Seen.{Stands, types_of, objects_in}
-use Rattle.verbs.specs.Step.{plan_for, planned, planned_over, validated_over}
+use Rattle.api_request.specs.Views.{body_seen, call_of, change_of, plan_of}
+use Rattle.verbs.specs.Views.{ApiRepresents, types_of, objects_in}
+use Rattle.verbs.specs.Step.{plan_for, planned, planned_over, dispatch_call}
 
-module _ (api : Api) (types : List ServedShape) (m : History) (call : Call) (stands : Stands api types m) where
-  validated_is : validated_over (types_of api) (from_view api.store) call ≡ validated_over types (from_history m) call
+module _ (api : Api) (types : List ServedShape) (m : History) (call : Call) (represents : ApiRepresents api types m) where
+  validated_is : dispatch_call (types_of api) (from_view api.store) call ≡ dispatch_call types (from_history m) call
   validated_is =
-      ap (λ ts. validated_over ts (from_view api.store) call) stands.serves
-      ∙ ap (λ (v : View). validated_over types (from_view v) call) stands.store
-      ∙ over_seen types m stands.is_machine call
+      ap (λ ts. dispatch_call ts (from_view api.store) call) represents.serves
+      ∙ ap (λ (v : View). dispatch_call types (from_view v) call) represents.store
+      ∙ over_seen types m represents.is_machine call
 
   pub planned_is : planned_over (types_of api) (from_view api.store) call ≡ planned types m call
   planned_is = ap plan_for validated_is
 
   -- each text that stands in the store is an object's
-  pub stands_texts : AreTexts (types_of api) (objects_in api.store)
-  stands_texts =
-      subst (λ ts. AreTexts ts (objects_in api.store)) (sym stands.serves)
-      (subst (AreTexts types) (sym (ap objects_in stands.store ∙ standing_seen types m stands.is_machine)) stands.is_machine.stand)
+  pub represents_texts : AreTexts (types_of api) (objects_in api.store)
+  represents_texts =
+      subst (λ ts. AreTexts ts (objects_in api.store)) (sym represents.serves)
+      (subst (AreTexts types) (sym (ap objects_in represents.store ∙ current_objects_seen types m represents.is_machine)) represents.is_machine.stand)
 
 -- what stands under a key of the type is readable
 pub readable_at : (types : List ServedShape) (t : ServedShape) (k : Key) (objects : Objects) (found : Option Object) → fin.get objects k ≡ found → slice_get types k.kind ≡ Some t
@@ -71,26 +71,26 @@ pub strings_utf8 : {A : Type 0} (text : A → String Global) (o : Option A) → 
 strings_utf8 text None = tt
 strings_utf8 text (Some a) = IsUtf8-string_bytes (text a)
 
-pub stands_next : (api new : Api) (types : List ServedShape) (m : History) (c : Change) → Stands api types m → IsNext types m c → IfSome c.body IsUtf8
-    → types_of new ≡ types_of api → new.store ≡ written_in api.store c.key c.body → Stands new types (after m (Some c))
-stands_next api new types m c stands next text serves store = record {
-  is_machine = machine_next types m c stands.is_machine next;
-  serves = serves ∙ stands.serves;
-  store = store ∙ ap (λ (v : View). written_in v c.key c.body) stands.store ∙ sym (view_writes m c.key c.body (is_history types m stands.is_machine));
-  unicode = all_push (λ (x : Change). IfSome x.body IsUtf8) m.changes (record { revision = suc m.current; key = c.key; body = c.body }) stands.unicode text;
+pub represents_next : (api new : Api) (types : List ServedShape) (m : History) (c : Change) → ApiRepresents api types m → IsNext types m c → IfSome c.body IsUtf8
+    → types_of new ≡ types_of api → new.store ≡ written_in api.store c.key c.body → ApiRepresents new types (after m (Some c))
+represents_next api new types m c represents next text serves store = record {
+  is_machine = machine_next types m c represents.is_machine next;
+  serves = serves ∙ represents.serves;
+  store = store ∙ ap (λ (v : View). written_in v c.key c.body) represents.store ∙ sym (view_writes m c.key c.body (is_history types m represents.is_machine));
+  unicode = all_push (λ (x : Change). IfSome x.body IsUtf8) m.changes (record { revision = suc m.current; key = c.key; body = c.body }) represents.unicode text;
 }
 
 pub on_ok : {X E A B : Type 0} (r : Result X E) → (A → B) → OnOk r A → OnOk r B
 on_ok (Ok x) f a = f a
 on_ok (Err e) f a = a
 
-pub stands_compacted : (api new : Api) (types : List ServedShape) (m : History) (c : ℕ) → Stands api types m → types_of new ≡ types_of api → m.compacted ≤ c → c ≤ m.current
-    → new.store ≡ compacted_in c api.store → Stands new types (compacted_to c m)
-stands_compacted api new types m c stands serves low high store = record {
-  is_machine = compactions_keep_machines types m c stands.is_machine low high;
-  serves = serves ∙ stands.serves;
-  store = store ∙ ap (compacted_in c) stands.store ∙ sym (view_compacts m c (is_history types m stands.is_machine) low);
-  unicode = stands.unicode;
+pub represents_compacted : (api new : Api) (types : List ServedShape) (m : History) (c : ℕ) → ApiRepresents api types m → types_of new ≡ types_of api → m.compacted ≤ c → c ≤ m.current
+    → new.store ≡ compacted_in c api.store → ApiRepresents new types (compacted_to c m)
+represents_compacted api new types m c represents serves low high store = record {
+  is_machine = compactions_keep_machines types m c represents.is_machine low high;
+  serves = serves ∙ represents.serves;
+  store = store ∙ ap (compacted_in c) represents.store ∙ sym (view_compacts m c (is_history types m represents.is_machine) low);
+  unicode = represents.unicode;
 }
 
 -- ---- a compaction
@@ -107,11 +107,11 @@ not_below c n apart = go (nat_lt c n) refl
     go false is = ltb-false _ _ is
 
 -- it is done where neither refusal stands
-pub compacts : {X E : Type 0} (api new : Api) (types : List ServedShape) (m : History) (c : ℕ) (r : Result X E) (expired large : E) → Stands api types m → types_of new ≡ types_of api
-    → (r ≡ Err expired) ↔ (c < api.store.compacted) → (r ≡ Err large) ↔ (api.store.current < c) → OnOk r (new.store ≡ compacted_in c api.store) → OnOk r (Stands new types (compacted_to c m))
-compacts api new types m c (Err e) expired large stands serves low high store = tt
-compacts api new types m c (Ok x) expired large stands serves low high store =
-    stands_compacted api new types m c stands serves
-    (subst (λ (n : ℕ). n ≤ c) (ap (λ (v : View). v.compacted) stands.store) (not_below c api.store.compacted (λ lt. true≢false (ap is_done (low.1 lt)))))
-    (subst (λ (n : ℕ). c ≤ n) (ap (λ (v : View). v.current) stands.store) (not_below api.store.current c (λ lt. true≢false (ap is_done (high.1 lt)))))
+pub compacts : {X E : Type 0} (api new : Api) (types : List ServedShape) (m : History) (c : ℕ) (r : Result X E) (expired large : E) → ApiRepresents api types m → types_of new ≡ types_of api
+    → (r ≡ Err expired) ↔ (c < api.store.compacted) → (r ≡ Err large) ↔ (api.store.current < c) → OnOk r (new.store ≡ compacted_in c api.store) → OnOk r (ApiRepresents new types (compacted_to c m))
+compacts api new types m c (Err e) expired large represents serves low high store = tt
+compacts api new types m c (Ok x) expired large represents serves low high store =
+    represents_compacted api new types m c represents serves
+    (subst (λ (n : ℕ). n ≤ c) (ap (λ (v : View). v.compacted) represents.store) (not_below c api.store.compacted (λ lt. true≢false (ap is_done (low.1 lt)))))
+    (subst (λ (n : ℕ). c ≤ n) (ap (λ (v : View). v.current) represents.store) (not_below api.store.current c (λ lt. true≢false (ap is_done (high.1 lt)))))
     store

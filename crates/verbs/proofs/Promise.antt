@@ -11,13 +11,13 @@ use Rattle.params.specs.Values.{Values}
 use Rattle.params.specs.declared.params.Asked.{Asked}
 use Rattle.params.specs.declared.params.Asked.TheVariants as asked
 use Rattle.api_types.specs.TypesFile.{ServedShape}
-use Rattle.pathmap.specs.Contents.{Standing, Content, dom}
+use Rattle.pathmap.specs.Contents.{LeafValue, Content, dom}
 use Rattle.pathmap.specs.Beside.{changed, same_value}
 use Rattle.pathmap.proofs.Contents.{path_cmp_total}
 use Rattle.pathmap.proofs.Sets.{contains-changed, contains-dom}
 use Rattle.typed.specs.Fitting.{IsContent}
 use Rattle.typed.specs.Reading.{content_of}
-use Rattle.history.specs.History.{Key, Change, Object, Objects, History, is_same_key, last_revision, object_by, put_or_remove, standing}
+use Rattle.history.specs.History.{Key, Change, Object, Objects, History, is_same_key, last_revision, object_by, put_or_remove, current_objects}
 use Rattle.history.proofs.Keys.{get-put_or_remove, tied}
 use Rattle.objects.specs.declared.manager.Subresource.{Subresource}
 use Rattle.objects.specs.declared.manager.Subresource.TheVariants.{Main, Status}
@@ -44,19 +44,19 @@ use Rattle.std.specs.declared.result.Result.{Result}
 use Rattle.lists.specs.declared.refusal.Refusal.{Refusal}
 use Rattle.api_request.specs.declared.reason.Reason.TheVariants.{Invalid}
 use Rattle.api_request.specs.Validated.{Validated, and_then, require}
-use Rattle.verbs.specs.Machine.{AreTexts, IsMachine, IsNamed, IsNext, IsOfTypes, IsSomeTextAt, IsTextAt, after, identity_of, no_state, state_by, state_of_live, state_said, state_under}
-use Rattle.api_validation.specs.Naming.{marks_validated_by, metadata_object, names_validated, path_validated, required_name}
+use Rattle.verbs.specs.Machine.{AreTexts, IsMachine, IsNamed, IsNext, IsOfTypes, IsSomeTextAt, IsTextAt, after, identity_of, no_state, state_by, state_of_existing, decoded_state, state_under}
+use Rattle.api_validation.specs.Naming.{labels_and_annotations_validated_by, metadata_object, names_validated, path_validated, required_name}
 use Rattle.api_validation.specs.Options.{options_validated}
 use Rattle.api_validation.specs.Parameters.{parameters_validated}
-use Rattle.verbs.specs.Promise.{AppliesKeepOthers, BodiesSayStates, ManagersOwnTheirSides, OthersKeepUnchanged, PlansAreShort, PlansComeNext, SaysState, StandingTextsSayStates, StepsKeepMachines, TextsSayStates, UpdatesTakeChanges, WritesLeaveOtherSide}
+use Rattle.verbs.specs.PromiseLaws.{AppliesKeepOthers, BodiesSayStates, ManagersOwnTheirSides, OthersKeepUnchanged, PlansAreShort, PlansComeNext, DecodesTo, StoredTextsDecode, StepsKeepMachines, TextsSayStates, UpdatesTakeChanges, WritesLeaveOtherSide}
 use Rattle.api_validation.specs.Size.{count_if_there, is_over, max_bytes, max_labels, size_validated}
 use Rattle.api_validation.specs.Shapes.{shape_validated}
-use Rattle.verbs.specs.Step.{Intent, applied_over, apply_validated, at_path, body_of, manager_for, conflict_refusal, Creation, created_as, creation_validated, delete_validated, deleted_over, get_validated, intent_of, object_at, validated_at, validated_by, validated_over, as_it_stands, key_at, not_there, object_validated_by, ownership_validated, planned, printed, revisions_left, store_state, store_unless_same, text_at, there, there_for, plan_for, step, update_validated, updated_by, updated_over, version_checked, version_come, collection_of, list_answered, list_validated, shown_by}
-use Rattle.watchline.specs.Watches.{Source, from_history}
-use Rattle.verbs.proofs.Changes.{machine_next, standing_next, texts_at}
+use Rattle.verbs.specs.Step.{Intent, applied_over, apply_plan, at_path, body_of, manager_for, conflict_refusal, Creation, created_as, creation_validated, delete_plan, deleted_over, get_plan, intent_of, object_at, dispatch_type, dispatch_scope, dispatch_call, plan_without_change, key_at, require_absent, dispatch_object, ownership_validated, planned, printed, revisions_left, plan_put, plan_put_unless_same, text_at, require_found, require_object_of_status, plan_for, step, update_plan, updated_by, updated_over, version_checked, version_reached, collection_of, list_answered, list_plan, shown_by}
+use Rattle.watchline.specs.Watches.{HistoryWindow, from_history}
+use Rattle.verbs.proofs.Changes.{machine_next, current_objects_next, texts_at}
 use Rattle.api_request.proofs.Checks.{change_in, held, no_err, ok_is, passed}
 use Rattle.verbs.proofs.Contents.{intended_content}
-use Rattle.verbs.proofs.Sides.{IsStored, live_stored, nothing_stored, owned_apart, owned_stored, stands_own, updated_by_apart, updated_stored}
+use Rattle.verbs.proofs.Sides.{IsStored, existing_stored, nothing_stored, owned_apart, owned_stored, represents_own, updated_by_apart, updated_stored}
 use Rattle.verbs.proofs.Said.{Shapes, printed_is_text, said_back, shapes_of}
 
 -- ---- what a call plans: no change; a deletion of what is there; or a text of a placed state that is as R says beside the one before
@@ -91,23 +91,23 @@ next_left n lt = lt
 
 -- of a type and key, over what stands there
 module _ (types : List ServedShape) (current : ℕ) (objects : Objects) (t : ServedShape) (k : Key) (serves : slice_get types k.kind ≡ Some t) (D : Type 0) (R : State → State → Type 0) where
-  under : state_under types objects k ≡ state_of_live t (fin.get objects k)
+  under : state_under types objects k ≡ state_of_existing t (fin.get objects k)
   under = ap (λ o. state_by o (fin.get objects k)) serves
 
-  stored_writes : (status : ℕ) (s : State) (p : Plan) → IsStored t s → R (state_of_live t (fin.get objects k)) s → IsNamed k → store_state t current k status s ≡ Ok p → WritesBy types current objects D R p.change
-  stored_writes status s p placed keeps named e =
+  stored_writes : (status : ℕ) (s : State) (p : Plan) → IsStored t s → R (state_of_existing t (fin.get objects k)) s → IsNamed k → plan_put t current k status s ≡ Ok p → WritesBy types current objects D R p.change
+  stored_writes status s p well_typed keeps named e =
       let sized = passed (size_validated (printed t k (suc current) s)) _ p e in
       let left = passed (revisions_left current) _ p sized.2 in
       subst (WritesBy types current objects D R) (ap change_in left.2)
-      (refl, next_left current (ltb-true _ _ (held (nat_lt current last_revision) _ _ left.0 left.1)), (t, serves, s, placed, refl, subst (λ x. R x s) (sym under) keeps, short_enough (printed t k (suc current) s) sized.0 sized.1, named))
+      (refl, next_left current (ltb-true _ _ (held (nat_lt current last_revision) _ _ left.0 left.1)), (t, serves, s, well_typed, refl, subst (λ x. R x s) (sym under) keeps, short_enough (printed t k (suc current) s) sized.0 sized.1, named))
 
-  over_writes : (found : Option Object) (s : State) (p : Plan) → IsStored t s → R (state_of_live t (fin.get objects k)) s → IsNamed k → store_unless_same t current k found s ≡ Ok p → WritesBy types current objects D R p.change
-  over_writes None s p placed keeps named e = stored_writes 201 s p placed keeps named e
-  over_writes (Some o) s p placed keeps named e = go (same_state s (state_said t.shape o.body)) e
+  over_writes : (found : Option Object) (s : State) (p : Plan) → IsStored t s → R (state_of_existing t (fin.get objects k)) s → IsNamed k → plan_put_unless_same t current k found s ≡ Ok p → WritesBy types current objects D R p.change
+  over_writes None s p well_typed keeps named e = stored_writes 201 s p well_typed keeps named e
+  over_writes (Some o) s p well_typed keeps named e = go (same_state s (decoded_state t.shape o.body)) e
     where
-      go : (b : Bool) → cond b (Ok (as_it_stands o)) (store_state t current k 200 s) ≡ Ok p → WritesBy types current objects D R p.change
+      go : (b : Bool) → cond b (Ok (plan_without_change o)) (plan_put t current k 200 s) ≡ Ok p → WritesBy types current objects D R p.change
       go true f = subst (WritesBy types current objects D R) (ap change_in f) tt
-      go false f = stored_writes 200 s p placed keeps named f
+      go false f = stored_writes 200 s p well_typed keeps named f
 
 -- ---- what the parameters say is what is intended
 
@@ -142,25 +142,25 @@ intended_by of how query body i e =
 
 -- ---- an apply without force
 
-owned_keeps : (api_version : List ℕ) (live : State) (config : Content) (mgr : Manager) (is_forced : Bool) (s : State)
-    → is_forced ≡ false → ownership_validated api_version live config mgr is_forced ≡ Ok s → OthersKeep live s mgr
-owned_keeps api_version live config mgr true s gentle e = absurd (true≢false gentle)
-owned_keeps api_version live config mgr false s gentle e = go (is_refused (conflicts live config mgr) false) refl e
+owned_keeps : (api_version : List ℕ) (existing : State) (config : Content) (mgr : Manager) (is_forced : Bool) (s : State)
+    → is_forced ≡ false → ownership_validated api_version existing config mgr is_forced ≡ Ok s → OthersKeep existing s mgr
+owned_keeps api_version existing config mgr true s gentle e = absurd (true≢false gentle)
+owned_keeps api_version existing config mgr false s gentle e = go (is_refused (conflicts existing config mgr) false) refl e
   where
-    go : (b : Bool) → is_refused (conflicts live config mgr) false ≡ b
-        → cond b (Err (conflict_refusal api_version (conflicts live config mgr))) (Ok (applied live config mgr)) ≡ Ok s → OthersKeep live s mgr
+    go : (b : Bool) → is_refused (conflicts existing config mgr) false ≡ b
+        → cond b (Err (conflict_refusal api_version (conflicts existing config mgr))) (Ok (applied existing config mgr)) ≡ Ok s → OthersKeep existing s mgr
     go true is f = no_err _ s f
-    go false is f = subst (λ x. OthersKeep live x mgr) (ok_is _ s f) (others_keep live config mgr is)
+    go false is f = subst (λ x. OthersKeep existing x mgr) (ok_is _ s f) (others_keep existing config mgr is)
 
 abbrev AsApplied : List ℕ → Subresource → State → State → Type 0
 AsApplied name by old new = OthersKeep old new (manager_by name apply_operation by)
 
 -- ---- an update
 
-not_lost : (a b : Option Standing) → a ≡ b → ((is_some a && not (same_value a b)) || (is_some b && not (is_some a))) ≡ false
+not_lost : (a b : Option LeafValue) → a ≡ b → ((is_some a && not (same_value a b)) || (is_some b && not (is_some a))) ≡ false
 not_lost a b e = subst (λ x. ((is_some x && not (same_value x b)) || (is_some b && not (is_some x))) ≡ false) (sym e) (itself b)
   where
-    itself : (b : Option Standing) → ((is_some b && not (same_value b b)) || (is_some b && not (is_some b))) ≡ false
+    itself : (b : Option LeafValue) → ((is_some b && not (same_value b b)) || (is_some b && not (is_some b))) ≡ false
     itself None = refl
     itself (Some v) = ap (λ t. not t || false) (same_value-itself (Some v))
 
@@ -171,18 +171,18 @@ other_manager m k apart = go (is_same m k) refl
     go true is = absurd (apart (sym (same_manager-is m k is)))
     go false is = refl
 
-updated_keeps : (live : State) (new : Content) (m : Manager) → OthersKeepUnchanged live (updated live new m) m
+updated_keeps : (existing : State) (new : Content) (m : Manager) → OthersKeepUnchanged existing (updated existing new m) m
 unfolding updated removed
-updated_keeps live new m k p apart is same =
-    let lost = set.union (changed new live.content) (removed live.content new) in
-    let mine = set.union (set.difference (owned_by live.owners m) (removed live.content new)) (changed new live.content) in
+updated_keeps existing new m k p apart is same =
+    let lost = set.union (changed new existing.content) (removed existing.content new) in
+    let mine = set.union (set.difference (owned_by existing.owners m) (removed existing.content new)) (changed new existing.content) in
     let free : set.contains lost p ≡ false =
-    set.contains-union path_cmp_total (changed new live.content) (removed live.content new) p
-    ∙ ap₂ (λ a b. a || b) (contains-changed new live.content p)
-    (set.contains-difference path_cmp_total (dom live.content) (dom new) p ∙ ap₂ (λ a b. a && not b) (contains-dom live.content p) (contains-dom new p))
-    ∙ not_lost (fin.get new p) (fin.get live.content p) same in
-    ap (λ s. set.contains s p) (owned_other live.owners m lost mine k (other_manager m k apart))
-    ∙ set.contains-difference path_cmp_total (owned_by live.owners k) lost p
+    set.contains-union path_cmp_total (changed new existing.content) (removed existing.content new) p
+    ∙ ap₂ (λ a b. a || b) (contains-changed new existing.content p)
+    (set.contains-difference path_cmp_total (dom existing.content) (dom new) p ∙ ap₂ (λ a b. a && not b) (contains-dom existing.content p) (contains-dom new p))
+    ∙ not_lost (fin.get new p) (fin.get existing.content p) same in
+    ap (λ s. set.contains s p) (owned_other existing.owners m lost mine k (other_manager m k apart))
+    ∙ set.contains-difference path_cmp_total (owned_by existing.owners k) lost p
     ∙ both_true _ _ is (ap not free)
 
 abbrev AsUpdated : List ℕ → Subresource → State → State → Type 0
@@ -203,17 +203,17 @@ module _ (types : List ServedShape) (current : ℕ) (objects : Objects) (shapes 
         → ((before s : State) → OwnSides before → owned_by_intent t before intent ≡ Ok s → R before s)
         → applied_over t current k (fin.get objects k) intent ≡ Ok p → WritesBy types current objects D R p.change
     applied_writes intent p content named keeps e =
-        let found = passed (there_for intent.subresource t k.name (fin.get objects k)) _ p e in
+        let found = passed (require_object_of_status intent.subresource t k.name (fin.get objects k)) _ p e in
         let version = passed (version_checked intent.version (fin.get objects k)) _ p found.2 in
-        let before = state_of_live t (fin.get objects k) in
-        let live = live_stored types objects shapes texts t k serves (fin.get objects k) refl in
+        let before = state_of_existing t (fin.get objects k) in
+        let existing = existing_stored types objects shapes texts t k serves (fin.get objects k) refl in
         let owned = passed (owned_by_intent t before intent) _ p version.2 in
         over_writes types current objects t k serves D R (fin.get objects k) owned.0 p
-        (owned_stored t (api_version_of t) before intent owned.0 live content owned.1) (keeps before owned.0 live.1 owned.1) named owned.2
+        (owned_stored t (api_version_of t) before intent owned.0 existing content owned.1) (keeps before owned.0 existing.1 owned.1) named owned.2
 
     apply_writes : (by : Subresource) (query : List ℕ) (body : Data) (p : Plan) → IsJson body
         → ((i : Intent) → intent_of (at_path t k Patch by) asked.Apply query body ≡ Ok i → (before s : State) → OwnSides before → owned_by_intent t before i ≡ Ok s → R before s)
-        → apply_validated by t current (fin.get objects k) k query body ≡ Ok p → WritesBy types current objects D R p.change
+        → apply_plan by t current (fin.get objects k) k query body ≡ Ok p → WritesBy types current objects D R p.change
     apply_writes by query body p json keeps e =
         let of = at_path t k Patch by in
         let intent = passed (intent_of of asked.Apply query body) _ p e in
@@ -226,18 +226,18 @@ module _ (types : List ServedShape) (current : ℕ) (objects : Objects) (shapes 
     updated_writes intent p content keeps None is e = no_err _ p e
     updated_writes intent p content keeps (Some o) is e =
         let version = passed (version_checked intent.version (Some o)) _ p e in
-        let before = state_said t.shape o.body in
-        let live = live_stored types objects shapes texts t k serves (Some o) is in
-        over_writes types current objects t k serves D R (Some o) (updated_by intent before) p (updated_stored t before intent content live)
-        (subst (λ found. R (state_of_live t found) (updated_by intent before)) (sym is) (keeps before live.1)) (texts k o is).is_text.named version.2
+        let before = decoded_state t.shape o.body in
+        let existing = existing_stored types objects shapes texts t k serves (Some o) is in
+        over_writes types current objects t k serves D R (Some o) (updated_by intent before) p (updated_stored t before intent content existing)
+        (subst (λ found. R (state_of_existing t found) (updated_by intent before)) (sym is) (keeps before existing.1)) (texts k o is).is_text.named version.2
 
     update_writes : (by : Subresource) (query : List ℕ) (body : Data) (p : Plan) → IsJson body
         → ((i : Intent) → intent_of (at_path t k Put by) asked.Put query body ≡ Ok i → (before : State) → OwnSides before → R before (updated_by i before))
-        → update_validated by t current (fin.get objects k) k query body ≡ Ok p → WritesBy types current objects D R p.change
+        → update_plan by t current (fin.get objects k) k query body ≡ Ok p → WritesBy types current objects D R p.change
     update_writes by query body p json keeps e =
         let of = at_path t k Put by in
         let intent = passed (intent_of of asked.Put query body) _ p e in
-        let marks = passed (marks_validated_by intent.0.subresource intent.0.rest) _ p intent.2 in
+        let marks = passed (labels_and_annotations_validated_by intent.0.subresource intent.0.rest) _ p intent.2 in
         updated_writes intent.0 p (intended_content of asked.Put query body intent.0 shaped json intent.1) (keeps intent.0 intent.1) (fin.get objects k) refl marks.2
 
     deleted_writes : D → (version : Option ℕ) (p : Plan) (found : Option Object) → fin.get objects k ≡ found → deleted_over t current k found version ≡ Ok p → WritesBy types current objects D R p.change
@@ -248,22 +248,22 @@ module _ (types : List ServedShape) (current : ℕ) (objects : Objects) (shapes 
         subst (WritesBy types current objects D R) (ap change_in left.2)
         (refl, next_left current (ltb-true _ _ (held (nat_lt current last_revision) _ _ left.0 left.1)), (d, ap is_some is))
 
-    delete_writes : D → (query : List ℕ) (body : Option Data) (p : Plan) → delete_validated t current (fin.get objects k) k query body ≡ Ok p → WritesBy types current objects D R p.change
+    delete_writes : D → (query : List ℕ) (body : Option Data) (p : Plan) → delete_plan t current (fin.get objects k) k query body ≡ Ok p → WritesBy types current objects D R p.change
     delete_writes d query body p e =
         let version = passed (options_validated body) _ p e in
         let values = passed (parameters_validated asked.Delete query) _ p version.2 in
         deleted_writes d version.0 p (fin.get objects k) refl values.2
 
-    get_writes : (query : List ℕ) (p : Plan) → get_validated t current (fin.get objects k) k query ≡ Ok p → WritesBy types current objects D R p.change
+    get_writes : (query : List ℕ) (p : Plan) → get_plan t current (fin.get objects k) k query ≡ Ok p → WritesBy types current objects D R p.change
     get_writes query p e =
         let values = passed (parameters_validated asked.Get query) _ p e in
-        let o = passed (there t k.name (fin.get objects k)) _ p values.2 in
-        let come = passed (version_come values.0.version current) _ p o.2 in
+        let o = passed (require_found t k.name (fin.get objects k)) _ p values.2 in
+        let come = passed (version_reached values.0.version current) _ p o.2 in
         subst (WritesBy types current objects D R) (ap change_in come.2) tt
 
   -- a creation: nothing stands under its key
   created_writes : (t : ServedShape) (k : Key) → slice_get types k.kind ≡ Some t → (intent : Intent) (p : Plan) → IsContent t.shape intent.content → IsNamed k
-      → (found : Option Object) → fin.get objects k ≡ found → and_then (not_there t k.name found) (λ u. store_state t current k 201 (updated_by intent no_state)) ≡ Ok p → WritesBy types current objects (Unit {0}) (λ old new. Unit {0}) p.change
+      → (found : Option Object) → fin.get objects k ≡ found → and_then (require_absent t k.name found) (λ u. plan_put t current k 201 (updated_by intent no_state)) ≡ Ok p → WritesBy types current objects (Unit {0}) (λ old new. Unit {0}) p.change
   created_writes t k serves intent p content named (Some o) is e = no_err _ p e
   created_writes t k serves intent p content named None is e =
       stored_writes types current objects t k serves (Unit {0}) (λ old new. Unit {0}) 201 (updated_by intent no_state) p (updated_stored t no_state intent content (nothing_stored t)) tt named e
@@ -288,7 +288,7 @@ body_json : (body : Option Data) (d : Data) → IsJsonBody body → body_of body
 body_json None d json e = no_err _ d e
 body_json (Some x) d json e = subst IsJson (ok_is x d e) json
 
-module _ (types : List ServedShape) (s : Source) (shapes : Shapes types) (texts : AreTexts types (s.at s.current)) (call : Call) (json : IsJsonBody call.body) where
+module _ (types : List ServedShape) (s : HistoryWindow) (shapes : Shapes types) (texts : AreTexts types (s.at s.current)) (call : Call) (json : IsJsonBody call.body) where
   abbrev current : ℕ
   current = s.current
 
@@ -303,7 +303,7 @@ module _ (types : List ServedShape) (s : Source) (shapes : Shapes types) (texts 
       let body = passed (body_of call.body) validated p e in
       writes body.0 (body_json call.body body.0 json body.1) p body.2
 
-  object_writes : (w : Method) (by : Subresource) (t : ServedShape) (k : Key) → slice_get types k.kind ≡ Some t → Writes (object_validated_by w by t current (fin.get stood k) k call.query call.body)
+  object_writes : (w : Method) (by : Subresource) (t : ServedShape) (k : Key) → slice_get types k.kind ≡ Some t → Writes (dispatch_object w by t current (fin.get stood k) k call.query call.body)
   object_writes Get by t k serves p e = get_writes types current stood shapes texts t k serves (Unit {0}) (λ old new. Unit {0}) call.query p e
   object_writes Post by t k serves p e = no_err _ p e
   object_writes Put by t k serves p e =
@@ -314,7 +314,7 @@ module _ (types : List ServedShape) (s : Source) (shapes : Shapes types) (texts 
   object_writes Delete Status t k serves p e = no_err _ p e
 
   -- a list writes nothing
-  list_writes : (t : ServedShape) (kind : ℕ) (namespace : Option (List ℕ)) → Writes (list_validated t s kind namespace call.query)
+  list_writes : (t : ServedShape) (kind : ℕ) (namespace : Option (List ℕ)) → Writes (list_plan t s kind namespace call.query)
   list_writes t kind namespace p e =
       let values = passed (parameters_validated asked.List call.query) _ p e in
       answered (shown_by s (collection_of t kind namespace) values.0 values.0.watch) values.2
@@ -323,31 +323,31 @@ module _ (types : List ServedShape) (s : Source) (shapes : Shapes types) (texts 
       answered (Ok answer) f = subst (WritesBy types current stood (Unit {0}) (λ old new. Unit {0})) (ap change_in f) tt
       answered (Err refusal) f = no_err _ p f
 
-  all_writes : (w : Method) (t : ServedShape) → Writes (validated_by of_all w t s call)
+  all_writes : (w : Method) (t : ServedShape) → Writes (dispatch_scope of_all w t s call)
   all_writes Get t p e = list_writes t call.target.kind None p e
   all_writes Post t p e = no_err _ p e
   all_writes Put t p e = no_err _ p e
   all_writes Patch t p e = no_err _ p e
   all_writes Delete t p e = no_err _ p e
 
-  collection_writes : (w : Method) (t : ServedShape) (namespace : List ℕ) → slice_get types call.target.kind ≡ Some t → Writes (validated_by (of_namespace namespace) w t s call)
+  collection_writes : (w : Method) (t : ServedShape) (namespace : List ℕ) → slice_get types call.target.kind ≡ Some t → Writes (dispatch_scope (of_namespace namespace) w t s call)
   collection_writes Post t namespace serves p e = with_body _ (λ body read q f. create_writes types current stood shapes texts t call.target.kind serves namespace call.query body q read f) p e
   collection_writes Get t namespace serves p e = list_writes t call.target.kind (Some namespace) p e
   collection_writes Put t namespace serves p e = no_err _ p e
   collection_writes Patch t namespace serves p e = no_err _ p e
   collection_writes Delete t namespace serves p e = no_err _ p e
 
-  by_writes : (scope : Scope) (t : ServedShape) → slice_get types call.target.kind ≡ Some t → Writes (validated_by scope call.target.method t s call)
+  by_writes : (scope : Scope) (t : ServedShape) → slice_get types call.target.kind ≡ Some t → Writes (dispatch_scope scope call.target.method t s call)
   by_writes of_all t serves p e = all_writes call.target.method t p e
   by_writes (of_namespace namespace) t serves p e = collection_writes call.target.method t namespace serves p e
   by_writes (of_object namespace name subresource) t serves p e = object_writes call.target.method subresource t (key_at call namespace name) serves p e
 
-  at_writes : (found : Option ServedShape) (scope : Option Scope) → slice_get types call.target.kind ≡ found → Writes (validated_at found scope s call)
+  at_writes : (found : Option ServedShape) (scope : Option Scope) → slice_get types call.target.kind ≡ found → Writes (dispatch_type found scope s call)
   at_writes None scope is p e = no_err _ p e
   at_writes (Some t) None is p e = no_err _ p e
   at_writes (Some t) (Some scope) is p e = by_writes scope t is p e
 
-  call_writes : (j : Validated Plan) → validated_over types s call ≡ j → WritesBy types current stood (Unit {0}) (λ old new. Unit {0}) (plan_for j).change
+  call_writes : (j : Validated Plan) → dispatch_call types s call ≡ j → WritesBy types current stood (Unit {0}) (λ old new. Unit {0}) (plan_for j).change
   call_writes (Err d) e = tt
   call_writes (Ok p) e = at_writes (slice_get types call.target.kind) (scope_of call.target.namespace call.target.name call.target.status) refl p e
 
@@ -371,20 +371,20 @@ gone_there : (types : List ServedShape) (objects : Objects) (D : Type 0) (R : St
 gone_there types objects D R c None is e = is.1
 gone_there types objects D R c (Some text) is e = no_some text e
 
-comes_next : (types : List ServedShape) (m : History) (D : Type 0) (R : State → State → Type 0) (c : Change) → WritesBy types m.current (standing m) D R (Some c) → IsNext types m c
+comes_next : (types : List ServedShape) (m : History) (D : Type 0) (R : State → State → Type 0) (c : Change) → WritesBy types m.current (current_objects m) D R (Some c) → IsNext types m c
 comes_next types m D R c is = record {
   next = is.0;
   high = is.1;
-  there = gone_there types (standing m) D R c c.body is.2;
-  is_text = written_text types (standing m) D R c c.body is.1 is.2;
+  there = gone_there types (current_objects m) D R c c.body is.2;
+  is_text = written_text types (current_objects m) D R c c.body is.1 is.2;
 }
 
-if_next : (types : List ServedShape) (m : History) (D : Type 0) (R : State → State → Type 0) (change : Option Change) → WritesBy types m.current (standing m) D R change → IfSome change (IsNext types m)
+if_next : (types : List ServedShape) (m : History) (D : Type 0) (R : State → State → Type 0) (change : Option Change) → WritesBy types m.current (current_objects m) D R change → IfSome change (IsNext types m)
 if_next types m D R None is = tt
 if_next types m D R (Some c) is = comes_next types m D R c is
 
-any_writes : (types : List ServedShape) (m : History) (call : Call) → IsMachine types m → IsJsonBody call.body → WritesBy types m.current (standing m) (Unit {0}) (λ old new. Unit {0}) (planned types m call).change
-any_writes types m call is json = call_writes types (from_history m) (shapes_of types is.shapes) is.stand call json (validated_over types (from_history m) call) refl
+any_writes : (types : List ServedShape) (m : History) (call : Call) → IsMachine types m → IsJsonBody call.body → WritesBy types m.current (current_objects m) (Unit {0}) (λ old new. Unit {0}) (planned types m call).change
+any_writes types m call is json = call_writes types (from_history m) (shapes_of types is.shapes) is.stand call json (dispatch_call types (from_history m) call) refl
 
 pub plans_come_next : PlansComeNext
 plans_come_next types m call is json = if_next types m (Unit {0}) (λ old new. Unit {0}) (planned types m call).change (any_writes types m call is json)
@@ -393,10 +393,10 @@ short_body : (types : List ServedShape) (objects : Objects) (D : Type 0) (R : St
 short_body types objects D R c None is = tt
 short_body types objects D R c (Some text) is = is.6
 
-short_change : (types : List ServedShape) (m : History) (change : Option Change) → WritesBy types m.current (standing m) (Unit {0}) (λ old new. Unit {0}) change
+short_change : (types : List ServedShape) (m : History) (change : Option Change) → WritesBy types m.current (current_objects m) (Unit {0}) (λ old new. Unit {0}) change
     → IfSome change (λ c. IfSome c.body (λ text. length text ≤ max_bytes))
 short_change types m None is = tt
-short_change types m (Some c) is = short_body types (standing m) (Unit {0}) (λ old new. Unit {0}) c c.body is.2
+short_change types m (Some c) is = short_body types (current_objects m) (Unit {0}) (λ old new. Unit {0}) c c.body is.2
 
 pub plans_are_short : PlansAreShort
 plans_are_short types m call is json = short_change types m (planned types m call).change (any_writes types m call is json)
@@ -410,25 +410,25 @@ steps_keep_machines types m call is json = after_machine types m (planned types 
 
 -- ---- texts say their states
 
-text_says : (types : List ServedShape) (k : Key) (r : ℕ) (text : List ℕ) → IsSomeTextAt types k r text → SaysState types k r text
+text_says : (types : List ServedShape) (k : Key) (r : ℕ) (text : List ℕ) → IsSomeTextAt types k r text → DecodesTo types k r text
 text_says types k r text is = (is, sym (said_back is.shape _ r is.is_text.state text is.shaped is.is_text.says))
 
 pub texts_say_states : TextsSayStates
 texts_say_states types m r k o is there = text_says types k o.revision o.body (texts_at types m r k o is there)
 
-pub standing_texts_say_states : StandingTextsSayStates
-standing_texts_say_states types m k o is there =
+pub stored_texts_decode : StoredTextsDecode
+stored_texts_decode types m k o is there =
     let x = is.stand k o there in (
       x,
-      sym (ap (λ u. state_by u (fin.get (standing m) k)) x.served ∙ ap (state_of_live x.t) there
+      sym (ap (λ u. state_by u (fin.get (current_objects m) k)) x.served ∙ ap (state_of_existing x.t) there
           ∙ said_back x.t.shape _ o.revision x.is_text.state o.body ((shapes_of types is.shapes) k.kind x.t x.served) x.is_text.says),
     )
 
-body_says : (types : List ServedShape) (c : Change) (body : Option (List ℕ)) → IfSome body (IsSomeTextAt types c.key c.revision) → IfSome body (SaysState types c.key c.revision)
+body_says : (types : List ServedShape) (c : Change) (body : Option (List ℕ)) → IfSome body (IsSomeTextAt types c.key c.revision) → IfSome body (DecodesTo types c.key c.revision)
 body_says types c None is = tt
 body_says types c (Some text) is = text_says types c.key c.revision text is
 
-all_say : (types : List ServedShape) (cs : List Change) → AllByRecursion (IsOfTypes types) cs → AllByRecursion (λ c. IfSome c.body (SaysState types c.key c.revision)) cs
+all_say : (types : List ServedShape) (cs : List Change) → AllByRecursion (IsOfTypes types) cs → AllByRecursion (λ c. IfSome c.body (DecodesTo types c.key c.revision)) cs
 all_say types [] all = tt
 all_say types (c ∷ cs) all = (body_says types c c.body all.0, all_say types cs all.1)
 
@@ -437,17 +437,17 @@ bodies_say_states types m is = all_say types m.changes is.texts
 
 -- ---- a call whose method is a write of an object
 
-module _ (types : List ServedShape) (s : Source) (call : Call) (json : IsJsonBody call.body) (R : State → State → Type 0) (w : Method) (validated : ServedShape → Key → Data → Validated Plan)
+module _ (types : List ServedShape) (s : HistoryWindow) (call : Call) (json : IsJsonBody call.body) (R : State → State → Type 0) (w : Method) (validated : ServedShape → Key → Data → Validated Plan)
     (is : call.target.method ≡ w)
-    (alone : (t : ServedShape) (namespace : List ℕ) (p : Plan) → validated_by (of_namespace namespace) w t s call ≡ Ok p → ⊥)
-    (everywhere : (t : ServedShape) (p : Plan) → validated_by of_all w t s call ≡ Ok p → ⊥)
-    (object : (t : ServedShape) (k : Key) → object_validated_by w (subresource_of call.target.status) t s.current (object_at s k) k call.query call.body ≡ and_then (body_of call.body) (validated t k))
+    (alone : (t : ServedShape) (namespace : List ℕ) (p : Plan) → dispatch_scope (of_namespace namespace) w t s call ≡ Ok p → ⊥)
+    (everywhere : (t : ServedShape) (p : Plan) → dispatch_scope of_all w t s call ≡ Ok p → ⊥)
+    (object : (t : ServedShape) (k : Key) → dispatch_object w (subresource_of call.target.status) t s.current (object_at s k) k call.query call.body ≡ and_then (body_of call.body) (validated t k))
     (keeps : (t : ServedShape) (k : Key) → slice_get types k.kind ≡ Some t → (body : Data) (p : Plan) → IsJson body → validated t k body ≡ Ok p → WritesBy types s.current (s.at s.current) ⊥ R p.change) where
-  by_method : (t : ServedShape) (scope : Scope) (p : Plan) → validated_by scope call.target.method t s call ≡ Ok p → validated_by scope w t s call ≡ Ok p
-  by_method t scope p e = subst (λ (m : Method). validated_by scope m t s call ≡ Ok p) is e
+  by_method : (t : ServedShape) (scope : Scope) (p : Plan) → dispatch_scope scope call.target.method t s call ≡ Ok p → dispatch_scope scope w t s call ≡ Ok p
+  by_method t scope p e = subst (λ (m : Method). dispatch_scope scope m t s call ≡ Ok p) is e
 
   in_keeps : (t : ServedShape) → slice_get types call.target.kind ≡ Some t → (namespace name : Option (List ℕ)) (p : Plan)
-      → validated_at (Some t) (scope_of namespace name call.target.status) s call ≡ Ok p → WritesBy types s.current (s.at s.current) ⊥ R p.change
+      → dispatch_type (Some t) (scope_of namespace name call.target.status) s call ≡ Ok p → WritesBy types s.current (s.at s.current) ⊥ R p.change
   in_keeps t serves None None p e = absurd (everywhere t p (by_method t of_all p e))
   in_keeps t serves None (Some name) p e = no_err _ p e
   in_keeps t serves (Some namespace) None p e = absurd (alone t namespace p (by_method t (of_namespace namespace) p e))
@@ -456,12 +456,12 @@ module _ (types : List ServedShape) (s : Source) (call : Call) (json : IsJsonBod
       let body = passed (body_of call.body) (validated t k) p (sym (object t k) ∙ by_method t (of_object namespace name (subresource_of call.target.status)) p e) in
       keeps t k serves body.0 p (body_json call.body body.0 json body.1) body.2
 
-  at_keeps : (found : Option ServedShape) → slice_get types call.target.kind ≡ found → (p : Plan) → validated_at found (scope_of call.target.namespace call.target.name call.target.status) s call ≡ Ok p
+  at_keeps : (found : Option ServedShape) → slice_get types call.target.kind ≡ found → (p : Plan) → dispatch_type found (scope_of call.target.namespace call.target.name call.target.status) s call ≡ Ok p
       → WritesBy types s.current (s.at s.current) ⊥ R p.change
   at_keeps None serves p e = no_err _ p e
   at_keeps (Some t) serves p e = in_keeps t serves call.target.namespace call.target.name p e
 
-  plan_keeps : (j : Validated Plan) → validated_over types s call ≡ j → WritesBy types s.current (s.at s.current) ⊥ R (plan_for j).change
+  plan_keeps : (j : Validated Plan) → dispatch_call types s call ≡ j → WritesBy types s.current (s.at s.current) ⊥ R (plan_for j).change
   plan_keeps (Err d) e = tt
   plan_keeps (Ok p) e = at_keeps (slice_get types call.target.kind) refl p e
 
@@ -469,30 +469,30 @@ module _ (types : List ServedShape) (s : Source) (call : Call) (json : IsJsonBod
 
 module _ (types : List ServedShape) (m : History) (is : IsMachine types m) (R : State → State → Type 0) (stays : (s : State) → R s s) where
   -- the state under the key of the change
-  changed_keeps : (c : Change) (body : Option (List ℕ)) → c.revision ≤ last_revision → BodyBy types (standing m) ⊥ R c body
-      → R (state_under types (standing m) c.key) (state_by (slice_get types c.key.kind) (object_by (suc m.current) body))
+  changed_keeps : (c : Change) (body : Option (List ℕ)) → c.revision ≤ last_revision → BodyBy types (current_objects m) ⊥ R c body
+      → R (state_under types (current_objects m) c.key) (state_by (slice_get types c.key.kind) (object_by (suc m.current) body))
   changed_keeps c None low b = absurd b.0
   changed_keeps c (Some text) low b =
       let says = printed_is_text b.0 c.key c.revision b.2 b.3.0 low in
-      subst (R (state_under types (standing m) c.key))
-      (sym (ap (λ u. state_by u (object_by (suc m.current) (Some text))) b.1 ∙ ap (state_said b.0.shape) b.4
+      subst (R (state_under types (current_objects m) c.key))
+      (sym (ap (λ u. state_by u (object_by (suc m.current) (Some text))) b.1 ∙ ap (decoded_state b.0.shape) b.4
       ∙ said_back b.0.shape _ c.revision b.2 (text_at b.0 c.key c.revision b.2) ((shapes_of types is.shapes) c.key.kind b.0 b.1) says))
       b.5
 
-  under_put : (c : Change) (k : Key) → R (state_under types (standing m) c.key) (state_by (slice_get types c.key.kind) (object_by (suc m.current) c.body))
-      → R (state_under types (standing m) k) (state_under types (put_or_remove (standing m) c.key (object_by (suc m.current) c.body)) k)
+  under_put : (c : Change) (k : Key) → R (state_under types (current_objects m) c.key) (state_by (slice_get types c.key.kind) (object_by (suc m.current) c.body))
+      → R (state_under types (current_objects m) k) (state_under types (put_or_remove (current_objects m) c.key (object_by (suc m.current) c.body)) k)
   under_put c k keeps =
-      subst (λ found. R (state_under types (standing m) k) (state_by (slice_get types k.kind) found)) (sym (get-put_or_remove (standing m) c.key (object_by (suc m.current) c.body) k)) (go (is_same_key k c.key) refl)
+      subst (λ found. R (state_under types (current_objects m) k) (state_by (slice_get types k.kind) found)) (sym (get-put_or_remove (current_objects m) c.key (object_by (suc m.current) c.body) k)) (go (is_same_key k c.key) refl)
     where
-      go : (b : Bool) → is_same_key k c.key ≡ b → R (state_under types (standing m) k) (state_by (slice_get types k.kind) (cond b (object_by (suc m.current) c.body) (fin.get (standing m) k)))
-      go true same = subst (λ q. R (state_under types (standing m) q) (state_by (slice_get types q.kind) (object_by (suc m.current) c.body))) (sym (tied k c.key same)) keeps
-      go false same = stays (state_under types (standing m) k)
+      go : (b : Bool) → is_same_key k c.key ≡ b → R (state_under types (current_objects m) k) (state_by (slice_get types k.kind) (cond b (object_by (suc m.current) c.body) (fin.get (current_objects m) k)))
+      go true same = subst (λ q. R (state_under types (current_objects m) q) (state_by (slice_get types q.kind) (object_by (suc m.current) c.body))) (sym (tied k c.key same)) keeps
+      go false same = stays (state_under types (current_objects m) k)
 
-  after_keeps : (change : Option Change) → WritesBy types m.current (standing m) ⊥ R change → (k : Key)
-      → R (state_under types (standing m) k) (state_under types (standing (after m change)) k)
-  after_keeps None writes k = stays (state_under types (standing m) k)
+  after_keeps : (change : Option Change) → WritesBy types m.current (current_objects m) ⊥ R change → (k : Key)
+      → R (state_under types (current_objects m) k) (state_under types (current_objects (after m change)) k)
+  after_keeps None writes k = stays (state_under types (current_objects m) k)
   after_keeps (Some c) writes k =
-      subst (λ os. R (state_under types (standing m) k) (state_under types os k)) (sym (standing_next types m c is (comes_next types m ⊥ R c writes)))
+      subst (λ os. R (state_under types (current_objects m) k) (state_under types os k)) (sym (current_objects_next types m c is (comes_next types m ⊥ R c writes)))
       (under_put c k (changed_keeps c c.body writes.1 writes.2))
 
 -- ---- an apply and an update as relations of the states before and after them
@@ -504,23 +504,23 @@ module _ (types : List ServedShape) (m : History) (call : Call) (is : IsMachine 
   pub applies_keep : call.target.method ≡ Patch
       → ((t : ServedShape) (k : Key) (body : Data) (i : Intent) → intent_of (at_path t k Patch written_by) asked.Apply call.query body ≡ Ok i → (before s : State) → OwnSides before
       → owned_by_intent t before i ≡ Ok s → R before s)
-      → (k : Key) → R (state_under types (standing m) k) (state_under types (standing (step types m call).1) k)
+      → (k : Key) → R (state_under types (current_objects m) k) (state_under types (current_objects (step types m call).1) k)
   applies_keep patch keeps =
-      after_keeps types m is R stays (plan_for (validated_over types (from_history m) call)).change
-      (plan_keeps types (from_history m) call json R Patch (λ t k. apply_validated written_by t m.current (fin.get (standing m) k) k call.query) patch
+      after_keeps types m is R stays (plan_for (dispatch_call types (from_history m) call)).change
+      (plan_keeps types (from_history m) call json R Patch (λ t k. apply_plan written_by t m.current (fin.get (current_objects m) k) k call.query) patch
       (λ t namespace p e. no_err _ p e) (λ t p e. no_err _ p e) (λ t k. refl)
-      (λ t k serves body p spelled e. apply_writes types m.current (standing m) (shapes_of types is.shapes) is.stand t k serves ⊥ R written_by call.query body p spelled (keeps t k body) e)
-      (validated_over types (from_history m) call) refl)
+      (λ t k serves body p encodable e. apply_writes types m.current (current_objects m) (shapes_of types is.shapes) is.stand t k serves ⊥ R written_by call.query body p encodable (keeps t k body) e)
+      (dispatch_call types (from_history m) call) refl)
 
   pub updates_keep : call.target.method ≡ Put
       → ((t : ServedShape) (k : Key) (body : Data) (i : Intent) → intent_of (at_path t k Put written_by) asked.Put call.query body ≡ Ok i → (before : State) → OwnSides before → R before (updated_by i before))
-      → (k : Key) → R (state_under types (standing m) k) (state_under types (standing (step types m call).1) k)
+      → (k : Key) → R (state_under types (current_objects m) k) (state_under types (current_objects (step types m call).1) k)
   updates_keep put keeps =
-      after_keeps types m is R stays (plan_for (validated_over types (from_history m) call)).change
-      (plan_keeps types (from_history m) call json R Put (λ t k. update_validated written_by t m.current (fin.get (standing m) k) k call.query) put
+      after_keeps types m is R stays (plan_for (dispatch_call types (from_history m) call)).change
+      (plan_keeps types (from_history m) call json R Put (λ t k. update_plan written_by t m.current (fin.get (current_objects m) k) k call.query) put
       (λ t namespace p e. no_err _ p e) (λ t p e. no_err _ p e) (λ t k. refl)
-      (λ t k serves body p spelled e. update_writes types m.current (standing m) (shapes_of types is.shapes) is.stand t k serves ⊥ R written_by call.query body p spelled (keeps t k body) e)
-      (validated_over types (from_history m) call) refl)
+      (λ t k serves body p encodable e. update_writes types m.current (current_objects m) (shapes_of types is.shapes) is.stand t k serves ⊥ R written_by call.query body p encodable (keeps t k body) e)
+      (dispatch_call types (from_history m) call) refl)
 
 -- ---- the laws
 
@@ -562,4 +562,4 @@ writes_leave_other_side types m call is json (inr put) =
     subst (λ b. OtherSideStays b before (updated_by i before)) (sym (intended_by (at_path t k Put by) asked.Put call.query body i intends)) (updated_by_apart before i))
 
 pub managers_own_their_sides : ManagersOwnTheirSides
-managers_own_their_sides types m k is = stands_own types (standing m) (shapes_of types is.shapes) is.stand k
+managers_own_their_sides types m k is = represents_own types (current_objects m) (shapes_of types is.shapes) is.stand k

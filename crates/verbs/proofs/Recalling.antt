@@ -1,4 +1,4 @@
--- What is remembered, by a type and by its number; what is printed is remembered rightly.
+-- What is cached, by a type and by its number; what is printed is cached rightly.
 use Rattle.std.proofs.Common.{◌≡◌, Ok, Err, Option, Some, None, sym, subst, ◌∙◌, List, ℕ, suc}
 use Rattle.std.specs.Prelude.{◌<◌, IfOk, IfSome, OnOk, slice_get, string_bytes}
 use Rattle.std.specs.declared.result.Result.{Result}
@@ -6,26 +6,26 @@ use Rattle.schema.specs.ObjectShape.{IsObjectShape}
 use Rattle.api_types.specs.TypesFile.{ServedShape}
 use Rattle.history.specs.History.{Key, last_revision}
 use Rattle.objects.specs.State.{State}
-use Rattle.objects.specs.Placed.{IsPlacedState}
+use Rattle.objects.specs.WellTyped.{IsWellTypedState}
 use Rattle.objects.proofs.Taken.{same_some}
 use Rattle.api_request.specs.declared.calls.Plan.{Plan as ThePlan}
-use Rattle.verbs.specs.declared.remembered.Remembered.{Remembered}
-use Rattle.verbs.specs.Remembered.{IsRight, IsRightAt, IsSaidBy}
+use Rattle.verbs.specs.declared.cached.CachedState.{CachedState}
+use Rattle.verbs.specs.CachedStateViews.{IsCoherent, IsCoherentAt, IsDecodedFrom}
 use Rattle.verbs.specs.Step.{text_at}
 use Rattle.verbs.proofs.Said.{printed_says}
 
-pub right_of : (types : List ServedShape) (kind : ℕ) (t : ServedShape) (known : Option Remembered) → slice_get types kind ≡ Some t
-    → IfSome known (IsRightAt types kind) → IfSome known (IsRight t)
-right_of types kind t None is right = tt
-right_of types kind t (Some r) is right = right t is
+pub right_of : (types : List ServedShape) (kind : ℕ) (t : ServedShape) (known : Option CachedState) → slice_get types kind ≡ Some t
+    → IfSome known (IsCoherentAt types kind) → IfSome known (IsCoherent t)
+right_of types kind t None is coherent = tt
+right_of types kind t (Some r) is coherent = coherent t is
 
-pub right_at : (types : List ServedShape) (kind : ℕ) (t : ServedShape) (known : Option Remembered) → slice_get types kind ≡ Some t
-    → IfSome known (IsRight t) → IfSome known (IsRightAt types kind)
-right_at types kind t None is right = tt
-right_at types kind t (Some r) is right = λ u at. subst (λ (x : ServedShape). IsRight x r) (same_some t u (sym is ∙ at)) right
+pub right_at : (types : List ServedShape) (kind : ℕ) (t : ServedShape) (known : Option CachedState) → slice_get types kind ≡ Some t
+    → IfSome known (IsCoherent t) → IfSome known (IsCoherentAt types kind)
+right_at types kind t None is coherent = tt
+right_at types kind t (Some r) is coherent = λ u at. subst (λ (x : ServedShape). IsCoherent x r) (same_some t u (sym is ∙ at)) coherent
 
 -- the answer to a write that is stored has the text that says its state
-pub answer_says : {E : Type 0} (t : ServedShape) (k : Key) (n : ℕ) (s : State) (text : List ℕ) (r : Result ThePlan E) → IsObjectShape t.shape → IsPlacedState t.shape s
-    → text ≡ text_at t k (suc n) s → OnOk r (n < last_revision) → IfOk r (λ p. string_bytes p.answer.body ≡ text) → IfOk r (λ p. IsSaidBy t (string_bytes p.answer.body) s)
-answer_says t k n s text (Err e) shaped placed is low same = tt
-answer_says t k n s text (Ok p) shaped placed is low same = subst (λ x. IsSaidBy t x s) (sym (same ∙ is)) (printed_says t k (suc n) s shaped placed low)
+pub answer_says : {E : Type 0} (t : ServedShape) (k : Key) (n : ℕ) (s : State) (text : List ℕ) (r : Result ThePlan E) → IsObjectShape t.shape → IsWellTypedState t.shape s
+    → text ≡ text_at t k (suc n) s → OnOk r (n < last_revision) → IfOk r (λ p. string_bytes p.answer.body ≡ text) → IfOk r (λ p. IsDecodedFrom t (string_bytes p.answer.body) s)
+answer_says t k n s text (Err e) shaped well_typed is low same = tt
+answer_says t k n s text (Ok p) shaped well_typed is low same = subst (λ x. IsDecodedFrom t x s) (sym (same ∙ is)) (printed_says t k (suc n) s shaped well_typed low)

@@ -8,7 +8,7 @@ use Rattle.std.specs.List.{AllByRecursion, list_any}
 use Rattle.std.specs.Ordering.{is_lt}
 use Rattle.std.proofs.lemmas.Bool.{and_parts}
 use Rattle.api_types.specs.TypesFile.{ServedShape}
-use Rattle.history.specs.History.{Change, History, IsHistory, Key, Object, Objects, changed, is_same_key, key_cmp, left_by, object_by, put_or_remove, standing}
+use Rattle.history.specs.History.{Change, History, IsHistory, Key, Object, Objects, changed, is_same_key, key_cmp, left_by, object_by, put_or_remove, current_objects}
 use Rattle.history.specs.Whole.{AreThere}
 use Rattle.history.specs.Writes.{changes_by, written_all}
 use Rattle.history.proofs.Keys.{get-put_or_remove, key_cmp_total, tied}
@@ -81,14 +81,14 @@ not_picked test s k o there none = found_not_picked test k o (fin.entries s) (sy
 
 -- ---- what stands after several writes
 
-pub standing_all : (m : History) (ws : List (Key × Option (List ℕ))) → IsHistory m → standing (written_all m ws) ≡ changed (standing m) (changes_by m.current ws)
-standing_all m ws is =
+pub current_objects_all : (m : History) (ws : List (Key × Option (List ℕ))) → IsHistory m → current_objects (written_all m ws) ≡ changed (current_objects m) (changes_by m.current ws)
+current_objects_all m ws is =
     let after = written_all m ws in
     ap (changed fin.empty) (up_to-all 0 after.current after.current after.changes (omega arith) (rising_all m ws is.rising) ∙ changes_all m ws)
     ∙ changed-append fin.empty m.changes (changes_by m.current ws)
     ∙ ap (λ s. changed s (changes_by m.current ws)) (ap (changed fin.empty) (sym (up_to-all 0 m.current m.current m.changes (omega arith) is.rising)))
 
-module _ (types others : List ServedShape) where
+module _ (types next_types : List ServedShape) where
   -- the key's own write, of one of the next revisions
   pub record IsWritten (P : Key × Object → Type 0) (n : ℕ) (es : Entries) (k : Key) (now : Option Object) : Type 0 where
     pub e : Key × Object
@@ -97,21 +97,21 @@ module _ (types others : List ServedShape) where
     pub high : revision ≤ n + length es
     pub of : k ≡ e.0
     pub is : P e
-    pub at : now ≡ object_by revision (text_under types others revision e.0 e.1)
+    pub at : now ≡ object_by revision (text_under types next_types revision e.0 e.1)
 
   abbrev pub StaysOrWritten : (Key × Object → Type 0) → ℕ → Entries → Objects → Key → Option Object → Type 0
   StaysOrWritten P n es s k now = ((has_key k es ≡ false) × (now ≡ fin.get s k)) ⊎ IsWritten P n es k now
 
   pub stays_or_written : (P : Key × Object → Type 0) (n : ℕ) (es : Entries) (s : Objects) (k : Key) → AllByRecursion P es
-      → StaysOrWritten P n es s k (fin.get (changed s (changes_by n (writes_from types others n es))) k)
+      → StaysOrWritten P n es s k (fin.get (changed s (changes_by n (writes_from types next_types n es))) k)
   stays_or_written P n [] s k all = inl (refl, refl)
   stays_or_written P n (e ∷ es) s k all = by_rest (stays_or_written P (suc n) es (put_or_remove s e.0 first) k all.1)
     where
       first : Option Object
-      first = object_by (suc n) (text_under types others (suc n) e.0 e.1)
+      first = object_by (suc n) (text_under types next_types (suc n) e.0 e.1)
 
       end : Option Object
-      end = fin.get (changed (put_or_remove s e.0 first) (changes_by (suc n) (writes_from types others (suc n) es))) k
+      end = fin.get (changed (put_or_remove s e.0 first) (changes_by (suc n) (writes_from types next_types (suc n) es))) k
 
       by_test : (b : Bool) → is_same_key k e.0 ≡ b → has_key k es ≡ false → end ≡ fin.get (put_or_remove s e.0 first) k → StaysOrWritten P n (e ∷ es) s k end
       by_test true same none is =
@@ -133,14 +133,14 @@ module _ (types others : List ServedShape) where
 
   -- nothing is deleted
   abbrev pub HasText : Key × Object → Type 0
-  HasText e = (r : ℕ) → is_some (text_under types others r e.0 e.1) ≡ true
+  HasText e = (r : ℕ) → is_some (text_under types next_types r e.0 e.1) ≡ true
 
-  pub none_goes : (n : ℕ) (es : Entries) (s : Objects) → AllByRecursion HasText es → AreThere s (changes_by n (writes_from types others n es))
+  pub none_goes : (n : ℕ) (es : Entries) (s : Objects) → AllByRecursion HasText es → AreThere s (changes_by n (writes_from types next_types n es))
   none_goes n [] s all = tt
   none_goes n (e ∷ es) s all =
-      let change : Change = record { revision = suc n; key = e.0; body = text_under types others (suc n) e.0 e.1 } in
+      let change : Change = record { revision = suc n; key = e.0; body = text_under types next_types (suc n) e.0 e.1 } in
       (λ none. absurd (true≢false (sym (all.0 (suc n)) ∙ ap is_some none)), none_goes (suc n) es (put_or_remove s e.0 (left_by change)) all.1)
 
-  pub as_many : (n : ℕ) (es : Entries) → length (writes_from types others n es) ≡ length es
+  pub as_many : (n : ℕ) (es : Entries) → length (writes_from types next_types n es) ≡ length es
   as_many n [] = refl
   as_many n (e ∷ es) = ap suc (as_many (suc n) es)

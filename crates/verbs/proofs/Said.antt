@@ -12,7 +12,7 @@ use Rattle.api_types.specs.TypesFile.{ServedShape}
 use Rattle.typed.specs.Fitting.{IsContent}
 use Rattle.history.specs.History.{Key}
 use Rattle.objects.specs.State.{State}
-use Rattle.objects.specs.Placed.{IsPlacedState}
+use Rattle.objects.specs.WellTyped.{IsWellTypedState}
 use Rattle.objects.specs.ObjectText.{Identity, object_text}
 use Rattle.objects.specs.Owners.{Manager, Owners, manager_cmp, owned_by}
 use Rattle.objects.specs.Parts.{parts_in}
@@ -21,29 +21,29 @@ use Rattle.objects.specs.ReadBack.{IsObjectText, max_version}
 use Rattle.objects.proofs.Back.{parts_back, text_read}
 use Rattle.objects.proofs.Taken.{no_some}
 use Rattle.objects.proofs.Textual.{value_textual}
-use Rattle.verbs.specs.Machine.{AreObjectTypes, identity_of, no_state, state_or_none, state_said}
-use Rattle.verbs.specs.Remembered.{IsSaidBy}
+use Rattle.verbs.specs.Machine.{AreObjectTypes, identity_of, no_state, state_or_none, decoded_state}
+use Rattle.verbs.specs.CachedStateViews.{IsDecodedFrom}
 use Rattle.verbs.specs.Step.{printed, text_at}
 
 -- an object's text says the state that it was printed of
-pub said_back : (s : Shape) (of : Identity) (version : ℕ) (state : State) (text : List ℕ) → IsObjectShape s → IsObjectText s of version state text → state_said s text ≡ state
-unfolding state_said
+pub said_back : (s : Shape) (of : Identity) (version : ℕ) (state : State) (text : List ℕ) → IsObjectShape s → IsObjectText s of version state text → decoded_state s text ≡ state
+unfolding decoded_state
 said_back s of version state text shaped said =
     ap (λ o. state_or_none (option_and_then (parts_in s) o)) (text_read s of version state text shaped said)
-    ∙ ap state_or_none (parts_back s of version state shaped said.placed said.numbered)
+    ∙ ap state_or_none (parts_back s of version state shaped said.well_typed said.numbered)
 
 pub text_is : (t : ServedShape) (k : Key) (revision : ℕ) (state : State) → text_at t k revision state ≡ object_text t.shape (identity_of t k) revision state
 unfolding object_text
 text_is t k revision state = refl
 
-pub printed_is_text : (t : ServedShape) (k : Key) (revision : ℕ) (state : State) → IsPlacedState t.shape state → revision ≤ max_version
+pub printed_is_text : (t : ServedShape) (k : Key) (revision : ℕ) (state : State) → IsWellTypedState t.shape state → revision ≤ max_version
     → IsObjectText t.shape (identity_of t k) revision state (text_at t k revision state)
-printed_is_text t k revision state placed low = record { placed = placed; numbered = low; is_text = text_is t k revision state }
+printed_is_text t k revision state well_typed low = record { well_typed = well_typed; numbered = low; is_text = text_is t k revision state }
 
 -- what is printed of a placed state says that state
-pub printed_says : (t : ServedShape) (k : Key) (revision : ℕ) (state : State) → IsObjectShape t.shape → IsPlacedState t.shape state → revision ≤ max_version
-    → IsSaidBy t (text_at t k revision state) state
-printed_says t k revision state shaped placed low = (said_back t.shape (identity_of t k) revision state (text_at t k revision state) shaped (printed_is_text t k revision state placed low), placed)
+pub printed_says : (t : ServedShape) (k : Key) (revision : ℕ) (state : State) → IsObjectShape t.shape → IsWellTypedState t.shape state → revision ≤ max_version
+    → IsDecodedFrom t (text_at t k revision state) state
+printed_says t k revision state shaped well_typed low = (said_back t.shape (identity_of t k) revision state (text_at t k revision state) shaped (printed_is_text t k revision state well_typed low), well_typed)
 
 -- no number in it is a float
 pub printed_clean : (t : ServedShape) (k : Key) (revision : ℕ) (state : State) → IsObjectShape t.shape → IsContent t.shape state.content → has_float (printed t k revision state) ≡ false
@@ -55,8 +55,8 @@ nobody_owns k p =
     ap (λ (o : Option PathSet). set.contains (unwrap_or o set.empty) p) (fin.get-empty manager_cmp k) ∙ set.contains-empty path_cmp p
 
 -- nothing is a content of each type, owned by nobody
-pub nothing_placed : (s : Shape) → IsPlacedState s no_state
-nothing_placed s = (
+pub nothing_well_typed : (s : Shape) → IsWellTypedState s no_state
+nothing_well_typed s = (
   (λ p v there. no_some v (sym there ∙ fin.get-empty path_cmp p), λ p q fits there. absurd (true≢false (sym there ∙ ap is_some (fin.get-empty path_cmp _)))),
   (
     λ m paths there. no_some paths (sym there ∙ fin.get-empty manager_cmp m),
@@ -71,7 +71,7 @@ Shapes types = (n : ℕ) (t : ServedShape) → slice_get types n ≡ Some t → 
 pub shapes_of : (types : List ServedShape) → AreObjectTypes types → Shapes types
 shapes_of types all n t is = subst (λ u. IsObjectShape u.shape) (get_or_from_slice_get types n t t is) (all n t (slice_get_within types n t is))
 
-pub empty_placed : (s : Shape) (content : Content) (owners : Owners) → content ≡ nothing → owners ≡ fin.empty → IsPlacedState s (record { content = content; owners = owners })
-empty_placed s content owners bare free =
-    subst (λ (c : Content). IsPlacedState s (record { content = c; owners = owners })) (sym bare)
-    (subst (λ (w : Owners). IsPlacedState s (record { content = nothing; owners = w })) (sym free) (nothing_placed s))
+pub empty_well_typed : (s : Shape) (content : Content) (owners : Owners) → content ≡ nothing → owners ≡ fin.empty → IsWellTypedState s (record { content = content; owners = owners })
+empty_well_typed s content owners bare free =
+    subst (λ (c : Content). IsWellTypedState s (record { content = c; owners = owners })) (sym bare)
+    (subst (λ (w : Owners). IsWellTypedState s (record { content = nothing; owners = w })) (sym free) (nothing_well_typed s))

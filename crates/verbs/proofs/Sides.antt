@@ -7,42 +7,42 @@ use Rattle.pathmap.specs.Contents.{Content}
 use Rattle.typed.specs.Fitting.{IsContent}
 use Rattle.history.specs.History.{Key, Object, Objects}
 use Rattle.objects.specs.Owners.{Manager, apply_operation, update_operation}
-use Rattle.objects.specs.Placed.{IsPlacedState}
+use Rattle.objects.specs.WellTyped.{IsWellTypedState}
 use Rattle.objects.specs.State.{State}
 use Rattle.objects.proofs.Taken.{same_some}
 use Rattle.ownership.specs.Apply.{applied, conflicts, is_refused}
 use Rattle.ownership.specs.Sides.{OtherSideStays, OwnSides, beside_others, own_part}
-use Rattle.ownership.proofs.Placed.{applied_placed, updated_placed}
+use Rattle.ownership.proofs.WellTyped.{applied_well_typed, updated_well_typed}
 use Rattle.ownership.proofs.Sides.{applied_apart, applied_sides, beside_content, own_content, updated_apart, updated_sides}
-use Rattle.verbs.specs.Machine.{AreTexts, no_state, state_by, state_of_live, state_said, state_under}
+use Rattle.verbs.specs.Machine.{AreTexts, no_state, state_by, state_of_existing, decoded_state, state_under}
 use Rattle.verbs.specs.Step.{Intent, conflict_refusal, manager_for, ownership_validated, updated_by}
 use Rattle.api_request.proofs.Checks.{no_err, ok_is}
-use Rattle.verbs.proofs.Said.{Shapes, nobody_owns, nothing_placed, said_back}
+use Rattle.verbs.proofs.Said.{Shapes, nobody_owns, nothing_well_typed, said_back}
 
 -- a content of the type, with owners of its paths, each of paths that its subresource writes
 abbrev pub IsStored : ServedShape → State → Type 0
-IsStored t state = IsPlacedState t.shape state × OwnSides state
+IsStored t state = IsWellTypedState t.shape state × OwnSides state
 
 pub nothing_stored : (t : ServedShape) → IsStored t no_state
-nothing_stored t = (nothing_placed t.shape, λ k p owns. absurd (true≢false (sym owns ∙ nobody_owns k p)))
+nothing_stored t = (nothing_well_typed t.shape, λ k p owns. absurd (true≢false (sym owns ∙ nobody_owns k p)))
 
 -- ---- what stands
 
 module _ (types : List ServedShape) (objects : Objects) (shapes : Shapes types) (texts : AreTexts types objects) where
-  pub live_stored : (t : ServedShape) (k : Key) → slice_get types k.kind ≡ Some t → (found : Option Object) → fin.get objects k ≡ found → IsStored t (state_of_live t found)
-  live_stored t k serves None is = nothing_stored t
-  live_stored t k serves (Some o) is =
+  pub existing_stored : (t : ServedShape) (k : Key) → slice_get types k.kind ≡ Some t → (found : Option Object) → fin.get objects k ≡ found → IsStored t (state_of_existing t found)
+  existing_stored t k serves None is = nothing_stored t
+  existing_stored t k serves (Some o) is =
       let x = texts k o is in
       let same : x.t ≡ t = same_some x.t t (sym x.served ∙ serves) in
-      subst (λ (u : ServedShape). IsStored u (state_said u.shape o.body)) same
-      (subst (IsStored x.t) (sym (said_back x.t.shape _ o.revision x.is_text.state o.body (shapes k.kind x.t x.served) x.is_text.says)) (x.is_text.says.placed, x.is_text.sides))
+      subst (λ (u : ServedShape). IsStored u (decoded_state u.shape o.body)) same
+      (subst (IsStored x.t) (sym (said_back x.t.shape _ o.revision x.is_text.state o.body (shapes k.kind x.t x.served) x.is_text.says)) (x.is_text.says.well_typed, x.is_text.sides))
 
   by_type : (k : Key) (found : Option ServedShape) → slice_get types k.kind ≡ found → OwnSides (state_by found (fin.get objects k))
   by_type k None is = λ m p owns. absurd (true≢false (sym owns ∙ nobody_owns m p))
-  by_type k (Some t) is = (live_stored t k is (fin.get objects k) refl).1
+  by_type k (Some t) is = (existing_stored t k is (fin.get objects k) refl).1
 
-  pub stands_own : (k : Key) → OwnSides (state_under types objects k)
-  stands_own k = by_type k (slice_get types k.kind) refl
+  pub represents_own : (k : Key) → OwnSides (state_under types objects k)
+  represents_own k = by_type k (slice_get types k.kind) refl
 
 -- ---- an apply
 
@@ -50,7 +50,7 @@ applied_stored : (t : ServedShape) (before : State) (intent : Intent) → IsCont
     → IsStored t (applied before (own_part intent.subresource intent.content) (manager_for apply_operation intent))
 applied_stored t before intent content is =
     let m = manager_for apply_operation intent in (
-      applied_placed before (own_part intent.subresource intent.content) m t.shape (own_content intent.subresource t.shape intent.content content) is.0,
+      applied_well_typed before (own_part intent.subresource intent.content) m t.shape (own_content intent.subresource t.shape intent.content content) is.0,
       applied_sides before intent.content m is.1,
     )
 
@@ -81,7 +81,7 @@ owned_apart api_version before intent s sides e =
 pub updated_stored : (t : ServedShape) (before : State) (intent : Intent) → IsContent t.shape intent.content → IsStored t before → IsStored t (updated_by intent before)
 updated_stored t before intent content is =
     let m = manager_for update_operation intent in (
-      updated_placed before (beside_others intent.subresource intent.content before.content) m t.shape
+      updated_well_typed before (beside_others intent.subresource intent.content before.content) m t.shape
           (beside_content intent.subresource t.shape intent.content before.content content is.0.0) is.0,
       updated_sides before intent.content m is.1,
     )

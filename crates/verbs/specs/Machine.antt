@@ -7,7 +7,7 @@ use Rattle.serde_json.specs.Read.{read}
 use Rattle.schema.specs.Shape.{Shape}
 use Rattle.api_types.specs.TypesFile.{ServedShape}
 use Rattle.pathmap.specs.Contents.{nothing}
-use Rattle.history.specs.History.{Key, Change, Object, Objects, History, last_revision, standing, written}
+use Rattle.history.specs.History.{Key, Change, Object, Objects, History, last_revision, current_objects, written}
 use Rattle.history.specs.View.{View, state_in}
 use Rattle.history.specs.Whole.{IsWhole}
 use Rattle.objects.specs.State.{State}
@@ -31,17 +31,17 @@ state_or_none (Some p) = p.0
 
 -- what an object's text says: its content, and who owns what. It is read as the code reads it; that the text of a state says just this
 -- state is the law `verbs::texts_say_states`, over `objects::objects_are_one_for_one`
-unfoldable pub state_said : Shape → List ℕ → State
-state_said s text = state_or_none (option_and_then (parts_in s) (read text))
+unfoldable pub decoded_state : Shape → List ℕ → State
+decoded_state s text = state_or_none (option_and_then (parts_in s) (read text))
 
 -- what a call starts from: the state of the object that stands, or nothing
-abbrev pub state_of_live : ServedShape → Option Object → State
-state_of_live t None = no_state
-state_of_live t (Some o) = state_said t.shape o.body
+abbrev pub state_of_existing : ServedShape → Option Object → State
+state_of_existing t None = no_state
+state_of_existing t (Some o) = decoded_state t.shape o.body
 
 abbrev pub state_by : Option ServedShape → Option Object → State
-state_by None live = no_state
-state_by (Some t) live = state_of_live t live
+state_by None existing = no_state
+state_by (Some t) existing = state_of_existing t existing
 
 -- content and owners under a key, both empty where there is no object
 abbrev pub state_under : List ServedShape → Objects → Key → State
@@ -105,7 +105,7 @@ pub record IsMachine (types : List ServedShape) (m : History) : Type 0 where
   pub whole : IsWhole first m
   pub shapes : AreObjectTypes types
   pub texts : AllByRecursion (IsOfTypes types) m.changes
-  pub stand : AreTexts types (standing m)
+  pub stand : AreTexts types (current_objects m)
 
 -- each body is Unicode, encoded in UTF-8 (RFC 8259, section 8.1)
 abbrev pub AreUnicode : List Change → Type 0
@@ -120,7 +120,7 @@ after m (Some c) = written m c.key c.body
 pub record IsNext (types : List ServedShape) (m : History) (c : Change) : Type 0 where
   pub next : c.revision ≡ suc m.current
   pub high : c.revision ≤ last_revision
-  pub there : c.body ≡ None → fin.contains_key (standing m) c.key ≡ true
+  pub there : c.body ≡ None → fin.contains_key (current_objects m) c.key ≡ true
   pub is_text : IfSome c.body (IsTextAt types c.key c.revision)
 
 -- a change that may come after what is seen: it has the next revision, and a deletion is of what stands

@@ -11,10 +11,10 @@ use Rattle.api_types.specs.Retyping.{types_may_become}
 use Rattle.schema.specs.ObjectTest.{is_object_shape}
 use Rattle.api_types.specs.Refusals as schemas
 use Rattle.api_types.specs.TypesFile.{ServedShape, declared_types}
-use Rattle.history.specs.History.{Key, Object, Objects, History, last_revision, standing}
+use Rattle.history.specs.History.{Key, Object, Objects, History, last_revision, current_objects}
 use Rattle.history.specs.Writes.{written_all}
 use Rattle.ownership.specs.Carry.{carried_state}
-use Rattle.verbs.specs.Machine.{state_said}
+use Rattle.verbs.specs.Machine.{decoded_state}
 use Rattle.verbs.specs.Step.{text_at}
 
 -- ---- what changes
@@ -22,36 +22,36 @@ use Rattle.verbs.specs.Step.{text_at}
 -- an object's text under its new type, at a revision: its content is printed under the old shape and read under the new one, of which
 -- `typed::carried_is_one` says in the subject's words what it is
 abbrev pub carried_text : ServedShape → ServedShape → ℕ → Key → Object → List ℕ
-carried_text t u revision k o = text_at u k revision (carried_state t.shape u.shape (state_said t.shape o.body))
+carried_text t u revision k o = text_at u k revision (carried_state t.shape u.shape (decoded_state t.shape o.body))
 
 -- by the types that were served and the others
 abbrev pub text_under : List ServedShape → List ServedShape → ℕ → Key → Object → Option (List ℕ)
-text_under types others revision k o = option_and_then (λ t. option_map (λ u. carried_text t u revision k o) (slice_get others k.kind)) (slice_get types k.kind)
+text_under types next_types revision k o = option_and_then (λ t. option_map (λ u. carried_text t u revision k o) (slice_get next_types k.kind)) (slice_get types k.kind)
 
 -- an object whose type isn't there, as no machine has one, keeps its text
-abbrev pub is_text : Option (List ℕ) → List ℕ → Bool
-is_text None text = true
-is_text (Some other) text = bytes_eq other text
+abbrev pub text_unchanged : Option (List ℕ) → List ℕ → Bool
+text_unchanged None text = true
+text_unchanged (Some other) text = bytes_eq other text
 
 -- the text that stands is another than its new one at the same revision
 abbrev pub is_changed : List ServedShape → List ServedShape → Key × Object → Bool
-is_changed types others e = not (is_text (text_under types others e.1.revision e.0 e.1) e.1.body)
+is_changed types next_types e = not (text_unchanged (text_under types next_types e.1.revision e.0 e.1) e.1.body)
 
 -- in the order of keys: by the number of the type, then by namespace, then by name
 abbrev pub changed_objects : List ServedShape → List ServedShape → Objects → List (Key × Object)
-changed_objects types others s = filter (is_changed types others) (fin.entries s)
+changed_objects types next_types s = filter (is_changed types next_types) (fin.entries s)
 
 -- each gets its new text at the next revision
 abbrev pub writes_from : List ServedShape → List ServedShape → ℕ → List (Key × Object) → List (Key × Option (List ℕ))
-writes_from types others r [] = []
-writes_from types others r (e ∷ es) = (e.0, text_under types others (suc r) e.0 e.1) ∷ writes_from types others (suc r) es
+writes_from types next_types r [] = []
+writes_from types next_types r (e ∷ es) = (e.0, text_under types next_types (suc r) e.0 e.1) ∷ writes_from types next_types (suc r) es
 
 abbrev pub retyping_writes : List ServedShape → List ServedShape → History → List (Key × Option (List ℕ))
-retyping_writes types others m = writes_from types others m.current (changed_objects types others (standing m))
+retyping_writes types next_types m = writes_from types next_types m.current (changed_objects types next_types (current_objects m))
 
 -- the machine where the others are served
 unfoldable pub retyped : List ServedShape → List ServedShape → History → History
-retyped types others m = written_all m (retyping_writes types others m)
+retyped types next_types m = written_all m (retyping_writes types next_types m)
 
 -- ---- why types stay
 
@@ -63,15 +63,15 @@ pub data RetypeRefusal : Type 0 where
   too_few_revisions : RetypeRefusal
 
 abbrev pub if_left : ℕ → List ServedShape → Result (List ServedShape) RetypeRefusal
-if_left revision others = if nat_le revision last_revision then Ok others else Err too_few_revisions
+if_left revision next_types = if nat_le revision last_revision then Ok next_types else Err too_few_revisions
 
-abbrev pub if_lawful : List ServedShape → History → List ServedShape → Result (List ServedShape) RetypeRefusal
-if_lawful types m others = if types_may_become types others then if_left (m.current + length (changed_objects types others (standing m))) others else Err not_lawful
+abbrev pub if_compatible : List ServedShape → History → List ServedShape → Result (List ServedShape) RetypeRefusal
+if_compatible types m next_types = if types_may_become types next_types then if_left (m.current + length (changed_objects types next_types (current_objects m))) next_types else Err not_lawful
 
 -- a types file, whose members stand in order, declares types of objects alone: that each is one holds of every JSON value, and what is no
 -- types file counts first in any case
 abbrev pub if_declared : List ServedShape → History → Result (List ServedShape) schemas.Refusal → Result (List ServedShape) RetypeRefusal
-if_declared types m (Ok others) = if list_all (λ t. is_object_shape t.shape) others then if_lawful types m others else Err not_types
+if_declared types m (Ok next_types) = if list_all (λ t. is_object_shape t.shape) next_types then if_compatible types m next_types else Err not_types
 if_declared types m (Err e) = Err not_types
 
 -- the types that are served where a types file is to take the place of these

@@ -31,7 +31,7 @@ use Rattle.params.specs.declared.params.Asked.{Asked}
 use Rattle.params.specs.declared.params.Asked.TheVariants as asked
 use Rattle.watchline.specs.Lines.{expired_message}
 use Rattle.watchline.specs.Opening.{WatchFrom, started}
-use Rattle.watchline.specs.Watches.{Source, from_history, from_view}
+use Rattle.watchline.specs.Watches.{HistoryWindow, from_history, from_view}
 use Rattle.api_request.specs.declared.method.Method.{Method}
 use Rattle.api_request.specs.declared.method.Method.TheVariants.{Get, Post, Put, Patch, Delete}
 use Rattle.api_request.specs.declared.reason.Reason.TheVariants.{BadRequest, NotFound, MethodNotAllowed, AlreadyExists, ServiceUnavailable, Timeout}
@@ -39,11 +39,11 @@ use Rattle.api_request.specs.declared.reason.Reason.TheVariants as reason
 use Rattle.api_request.specs.Reasons.{code_of}
 use Rattle.api_request.specs.Status.{CallRefusal, call_refusal_value}
 use Rattle.api_request.specs.Validated.{Validated, and_then, call_refusal, refused_for, require}
-use Rattle.verbs.specs.Machine.{after, identity_of, no_state, state_of_live, state_said}
+use Rattle.verbs.specs.Machine.{after, identity_of, no_state, state_of_existing, decoded_state}
 use Rattle.api_request.specs.Calls.{Scope, of_all, of_namespace, of_object, scope_of, Call, Answer, Plan}
 use Rattle.api_validation.specs.Envelope.{Expected, api_version_of, envelope_of, name_in}
 use Rattle.api_validation.specs.Parameters.{parameters_validated}
-use Rattle.api_validation.specs.Naming.{marks_validated_by, names_validated, required_name}
+use Rattle.api_validation.specs.Naming.{labels_and_annotations_validated_by, names_validated, required_name}
 use Rattle.api_validation.specs.Options.{options_validated}
 use Rattle.api_validation.specs.Shapes.{shape_validated}
 use Rattle.api_validation.specs.Size.{size_validated}
@@ -67,7 +67,7 @@ other_version_message given stored = codes "version " ++ (decimal given ++ (code
 
 -- the version that a body names is that of the object that stands
 abbrev pub version_checked : Option ℕ → Option Object → Validated (Unit {0})
-version_checked None live = Ok tt
+version_checked None existing = Ok tt
 version_checked (Some given) None = refused_for reason.Conflict (no_object_message given)
 version_checked (Some given) (Some o) = require (given == o.revision) reason.Conflict (other_version_message given o.revision)
 
@@ -96,8 +96,8 @@ conflict_refusal api_version cs = record {
 }
 
 abbrev pub ownership_validated : List ℕ → State → Content → Manager → Bool → Validated State
-ownership_validated api_version live config m is_forced =
-    if is_refused (conflicts live config m) is_forced then Err (conflict_refusal api_version (conflicts live config m)) else Ok (applied live config m)
+ownership_validated api_version existing config m is_forced =
+    if is_refused (conflicts existing config m) is_forced then Err (conflict_refusal api_version (conflicts existing config m)) else Ok (applied existing config m)
 
 -- ---- what a write intends
 
@@ -133,8 +133,8 @@ abbrev pub revisions_left : ℕ → Validated (Unit {0})
 revisions_left current = require (nat_lt current last_revision) ServiceUnavailable (codes "revisions are used up")
 
 -- the plan that stores the object of this value, unless it has too many labels, is too large, or revisions are used up
-abbrev pub store_text : Data → ℕ → Key → ℕ → Validated Plan
-store_text body current k status =
+abbrev pub plan_put_text : Data → ℕ → Key → ℕ → Validated Plan
+plan_put_text body current k status =
     and_then (size_validated body) (λ u.
     and_then (revisions_left current) (λ u.
     Ok (record {
@@ -143,17 +143,17 @@ store_text body current k status =
     })))
 
 -- the plan that stores a state, with the next revision
-abbrev pub store_state : ServedShape → ℕ → Key → ℕ → State → Validated Plan
-store_state t current k status s = store_text (printed t k (suc current) s) current k status
+abbrev pub plan_put : ServedShape → ℕ → Key → ℕ → State → Validated Plan
+plan_put t current k status s = plan_put_text (printed t k (suc current) s) current k status
 
 -- the object as it stands
-abbrev pub as_it_stands : Object → Plan
-as_it_stands o = record { answer = record { status = 200; body = o.body; watch = None }; change = None }
+abbrev pub plan_without_change : Object → Plan
+plan_without_change o = record { answer = record { status = 200; body = o.body; watch = None }; change = None }
 
 -- the plan of a creation, or of a change of what stands, unless it changes nothing of what that says
-abbrev pub store_unless_same : ServedShape → ℕ → Key → Option Object → State → Validated Plan
-store_unless_same t current k None s = store_state t current k 201 s
-store_unless_same t current k (Some o) s = if same_state s (state_said t.shape o.body) then Ok (as_it_stands o) else store_state t current k 200 s
+abbrev pub plan_put_unless_same : ServedShape → ℕ → Key → Option Object → State → Validated Plan
+plan_put_unless_same t current k None s = plan_put t current k 201 s
+plan_put_unless_same t current k (Some o) s = if same_state s (decoded_state t.shape o.body) then Ok (plan_without_change o) else plan_put t current k 200 s
 
 -- ---- objects that are there, and that are not
 
@@ -161,35 +161,35 @@ store_unless_same t current k (Some o) s = if same_state s (state_said t.shape o
 abbrev pub said_of_object : ServedShape → List ℕ → List ℕ → List ℕ
 said_of_object t name what = t.plural ++ (codes "." ++ (t.group ++ (codes " \"" ++ (name ++ (codes "\"" ++ what)))))
 
-abbrev pub there : ServedShape → List ℕ → Option Object → Validated Object
-there t name None = refused_for NotFound (said_of_object t name (codes " not found"))
-there t name (Some o) = Ok o
+abbrev pub require_found : ServedShape → List ℕ → Option Object → Validated Object
+require_found t name None = refused_for NotFound (said_of_object t name (codes " not found"))
+require_found t name (Some o) = Ok o
 
-abbrev pub not_there : ServedShape → List ℕ → Option Object → Validated (Unit {0})
-not_there t name None = Ok tt
-not_there t name (Some o) = refused_for AlreadyExists (said_of_object t name (codes " already exists"))
+abbrev pub require_absent : ServedShape → List ℕ → Option Object → Validated (Unit {0})
+require_absent t name None = Ok tt
+require_absent t name (Some o) = refused_for AlreadyExists (said_of_object t name (codes " already exists"))
 
 -- a status is written of an object that is there
-abbrev pub there_for : Subresource → ServedShape → List ℕ → Option Object → Validated (Unit {0})
-there_for Main t name live = Ok tt
-there_for Status t name live = and_then (there t name live) (λ o. Ok tt)
+abbrev pub require_object_of_status : Subresource → ServedShape → List ℕ → Option Object → Validated (Unit {0})
+require_object_of_status Main t name existing = Ok tt
+require_object_of_status Status t name existing = and_then (require_found t name existing) (λ o. Ok tt)
 
 -- ---- apply
 
 -- whether the object of a status is there, version, conflicts, whether anything changes, number of labels and size, revisions left
 abbrev pub applied_over : ServedShape → ℕ → Key → Option Object → Intent → Validated Plan
-applied_over t current k live intent =
-    and_then (there_for intent.subresource t k.name live) (λ u.
-    and_then (version_checked intent.version live) (λ u.
-    and_then (ownership_validated (api_version_of t) (state_of_live t live) (own_part intent.subresource intent.content) (manager_for apply_operation intent) intent.is_forced) (λ s.
-    store_unless_same t current k live s)))
+applied_over t current k existing intent =
+    and_then (require_object_of_status intent.subresource t k.name existing) (λ u.
+    and_then (version_checked intent.version existing) (λ u.
+    and_then (ownership_validated (api_version_of t) (state_of_existing t existing) (own_part intent.subresource intent.content) (manager_for apply_operation intent) intent.is_forced) (λ s.
+    plan_put_unless_same t current k existing s)))
 
--- of a body of JSON (`object_validated_by`): envelope, shape, parameters (`intent_of`), names with labels and annotations, what `applied_over` checks
-abbrev pub apply_validated : Subresource → ServedShape → ℕ → Option Object → Key → List ℕ → Data → Validated Plan
-apply_validated subresource t current live k query body =
+-- of a body of JSON (`dispatch_object`): envelope, shape, parameters (`intent_of`), names with labels and annotations, what `applied_over` checks
+abbrev pub apply_plan : Subresource → ServedShape → ℕ → Option Object → Key → List ℕ → Data → Validated Plan
+apply_plan subresource t current existing k query body =
     and_then (intent_of (at_path t k Patch subresource) asked.Apply query body) (λ intent.
     and_then (names_validated intent.subresource k.namespace k.name intent.rest) (λ u.
-    applied_over t current k live intent))
+    applied_over t current k existing intent))
 
 -- ---- get
 
@@ -197,17 +197,17 @@ abbrev pub too_large_message : ℕ → ℕ → List ℕ
 too_large_message n current = codes "Too large resource version: " ++ (decimal n ++ (codes ", current: " ++ decimal current))
 
 -- the version that is asked for has come
-abbrev pub version_come : Option ℕ → ℕ → Validated (Unit {0})
-version_come None current = Ok tt
-version_come (Some n) current = require (nat_le n current) Timeout (too_large_message n current)
+abbrev pub version_reached : Option ℕ → ℕ → Validated (Unit {0})
+version_reached None current = Ok tt
+version_reached (Some n) current = require (nat_le n current) Timeout (too_large_message n current)
 
 -- parameters, whether the object is there, version
-abbrev pub get_validated : ServedShape → ℕ → Option Object → Key → List ℕ → Validated Plan
-get_validated t current live k query =
+abbrev pub get_plan : ServedShape → ℕ → Option Object → Key → List ℕ → Validated Plan
+get_plan t current existing k query =
     and_then (parameters_validated asked.Get query) (λ values.
-    and_then (there t k.name live) (λ o.
-    and_then (version_come values.version current) (λ u.
-    Ok (as_it_stands o))))
+    and_then (require_found t k.name existing) (λ o.
+    and_then (version_reached values.version current) (λ u.
+    Ok (plan_without_change o))))
 
 -- ---- lists ("Retrieving large results sets in chunks") and watches ("Efficient detection of changes")
 
@@ -233,13 +233,13 @@ watch_shown (Ok from) = Ok (record { status = 200; body = []; watch = Some from 
 watch_shown (Err refusal) = Err refusal
 
 -- a watch where the parameters ask for one, and else a page
-abbrev pub shown_by : Source → Collection → Values → Option Watch → Result Answer Refusal
+abbrev pub shown_by : HistoryWindow → Collection → Values → Option Watch → Result Answer Refusal
 shown_by s of values None = page_shown (list_of of values s.current s.compacted s.at)
 shown_by s of values (Some watch) = watch_shown (started s of.kind of.namespace values watch)
 
 -- parameters, then the revision
-abbrev pub list_validated : ServedShape → Source → ℕ → Option (List ℕ) → List ℕ → Validated Plan
-list_validated t s kind namespace query =
+abbrev pub list_plan : ServedShape → HistoryWindow → ℕ → Option (List ℕ) → List ℕ → Validated Plan
+list_plan t s kind namespace query =
     and_then (parameters_validated asked.List query) (λ values. list_answered (shown_by s (collection_of t kind namespace) values values.watch))
 
 -- ---- creation and update ("Server-Side Apply", "Comparison with Client-Side Apply": they own what they change)
@@ -249,10 +249,10 @@ updated_by intent s = updated s (beside_others intent.subresource intent.content
 
 -- names with labels and annotations, that no object is there, number of labels and size, revisions left
 abbrev pub created_as : ServedShape → ℕ → Option Object → Key → Intent → Validated Plan
-created_as t current live k intent =
+created_as t current existing k intent =
     and_then (names_validated intent.subresource k.namespace k.name intent.rest) (λ u.
-    and_then (not_there t k.name live) (λ u.
-    store_state t current k 201 (updated_by intent no_state)))
+    and_then (require_absent t k.name existing) (λ u.
+    plan_put t current k 201 (updated_by intent no_state)))
 
 -- the object that a creation is of, and what it intends
 pub record Creation : Type 0 where
@@ -267,51 +267,51 @@ creation_validated t kind namespace query body =
     Ok (record { key = record { kind = kind; namespace = namespace; name = name }; intent = intent })))
 
 -- the object that stands under a key
-abbrev pub object_at : Source → Key → Option Object
+abbrev pub object_at : HistoryWindow → Key → Option Object
 object_at s k = fin.get (s.at s.current) k
 
 -- of a body of JSON: what `creation_validated` checks, then what `created_as` checks
-abbrev pub create_validated : ServedShape → Source → ℕ → List ℕ → List ℕ → Data → Validated Plan
-create_validated t s kind namespace query body =
+abbrev pub create_plan : ServedShape → HistoryWindow → ℕ → List ℕ → List ℕ → Data → Validated Plan
+create_plan t s kind namespace query body =
     and_then (creation_validated t kind namespace query body) (λ c. created_as t s.current (object_at s c.key) c.key c.intent)
 
 -- whether the object is there, version, whether anything changes, number of labels and size, revisions left
 abbrev pub updated_over : ServedShape → ℕ → Key → Option Object → Intent → Validated Plan
-updated_over t current k live intent =
-    and_then (there t k.name live) (λ o.
-    and_then (version_checked intent.version live) (λ u.
-    store_unless_same t current k live (updated_by intent (state_said t.shape o.body))))
+updated_over t current k existing intent =
+    and_then (require_found t k.name existing) (λ o.
+    and_then (version_checked intent.version existing) (λ u.
+    plan_put_unless_same t current k existing (updated_by intent (decoded_state t.shape o.body))))
 
--- of a body of JSON (`object_validated_by`): envelope, shape, parameters, labels and annotations, what `updated_over` checks
-abbrev pub update_validated : Subresource → ServedShape → ℕ → Option Object → Key → List ℕ → Data → Validated Plan
-update_validated subresource t current live k query body =
+-- of a body of JSON (`dispatch_object`): envelope, shape, parameters, labels and annotations, what `updated_over` checks
+abbrev pub update_plan : Subresource → ServedShape → ℕ → Option Object → Key → List ℕ → Data → Validated Plan
+update_plan subresource t current existing k query body =
     and_then (intent_of (at_path t k Put subresource) asked.Put query body) (λ intent.
-    and_then (marks_validated_by intent.subresource intent.rest) (λ u.
-    updated_over t current k live intent))
+    and_then (labels_and_annotations_validated_by intent.subresource intent.rest) (λ u.
+    updated_over t current k existing intent))
 
 -- ---- deletion
 
 -- the object's last state, with the deletion's revision
 abbrev pub deleted : ServedShape → ℕ → Key → Object → Plan
 deleted t current k o = record {
-  answer = record { status = 200; body = text_at t k (suc current) (state_said t.shape o.body); watch = None };
+  answer = record { status = 200; body = text_at t k (suc current) (decoded_state t.shape o.body); watch = None };
   change = Some (record { revision = suc current; key = k; body = None });
 }
 
 -- whether the object is there, version, revisions left; nothing is stored, so no size is validated
 abbrev pub deleted_over : ServedShape → ℕ → Key → Option Object → Option ℕ → Validated Plan
-deleted_over t current k live version =
-    and_then (there t k.name live) (λ o.
-    and_then (version_checked version live) (λ u.
+deleted_over t current k existing version =
+    and_then (require_found t k.name existing) (λ o.
+    and_then (version_checked version existing) (λ u.
     and_then (revisions_left current) (λ u.
     Ok (deleted t current k o))))
 
 -- the body's options, parameters, what `deleted_over` checks
-abbrev pub delete_validated : ServedShape → ℕ → Option Object → Key → List ℕ → Option Data → Validated Plan
-delete_validated t current live k query body =
+abbrev pub delete_plan : ServedShape → ℕ → Option Object → Key → List ℕ → Option Data → Validated Plan
+delete_plan t current existing k query body =
     and_then (options_validated body) (λ version.
     and_then (parameters_validated asked.Delete query) (λ values.
-    deleted_over t current k live version))
+    deleted_over t current k existing version))
 
 -- ---- calls
 
@@ -320,45 +320,45 @@ abbrev pub body_of : Option Data → Validated Data
 body_of None = refused_for BadRequest (codes "body is not JSON")
 body_of (Some body) = Ok body
 
-abbrev pub not_served : Validated Plan
-not_served = refused_for MethodNotAllowed (codes "method not served here")
+abbrev pub method_not_allowed : Validated Plan
+method_not_allowed = refused_for MethodNotAllowed (codes "method not served here")
 
 -- a write of an object, by its method; a status is deleted with its object alone
-abbrev pub write_validated_by : Method → Subresource → ServedShape → ℕ → Option Object → Key → List ℕ → Option Data → Validated Plan
-write_validated_by Put subresource t current live k query body = and_then (body_of body) (update_validated subresource t current live k query)
-write_validated_by Patch subresource t current live k query body = and_then (body_of body) (apply_validated subresource t current live k query)
-write_validated_by Delete Main t current live k query body = delete_validated t current live k query body
-write_validated_by how subresource t current live k query body = not_served
+abbrev pub dispatch_write : Method → Subresource → ServedShape → ℕ → Option Object → Key → List ℕ → Option Data → Validated Plan
+dispatch_write Put subresource t current existing k query body = and_then (body_of body) (update_plan subresource t current existing k query)
+dispatch_write Patch subresource t current existing k query body = and_then (body_of body) (apply_plan subresource t current existing k query)
+dispatch_write Delete Main t current existing k query body = delete_plan t current existing k query body
+dispatch_write how subresource t current existing k query body = method_not_allowed
 
 -- on an object, or its status
-abbrev pub object_validated_by : Method → Subresource → ServedShape → ℕ → Option Object → Key → List ℕ → Option Data → Validated Plan
-object_validated_by Get subresource t current live k query body = get_validated t current live k query
-object_validated_by how subresource t current live k query body = write_validated_by how subresource t current live k query body
+abbrev pub dispatch_object : Method → Subresource → ServedShape → ℕ → Option Object → Key → List ℕ → Option Data → Validated Plan
+dispatch_object Get subresource t current existing k query body = get_plan t current existing k query
+dispatch_object how subresource t current existing k query body = dispatch_write how subresource t current existing k query body
 
-abbrev pub no_path : Validated Plan
-no_path = refused_for NotFound (codes "no such path")
+abbrev pub route_not_found : Validated Plan
+route_not_found = refused_for NotFound (codes "no such path")
 
 abbrev pub key_at : Call → List ℕ → List ℕ → Key
 key_at call namespace name = record { kind = call.target.kind; namespace = namespace; name = name }
 
 -- by the objects that the call is of, and its method
-abbrev pub validated_by : Scope → Method → ServedShape → Source → Call → Validated Plan
-validated_by of_all Get t s call = list_validated t s call.target.kind None call.query
-validated_by (of_namespace namespace) Get t s call = list_validated t s call.target.kind (Some namespace) call.query
-validated_by (of_namespace namespace) Post t s call = and_then (body_of call.body) (create_validated t s call.target.kind namespace call.query)
-validated_by (of_object namespace name subresource) how t s call =
-    object_validated_by how subresource t s.current (object_at s (key_at call namespace name)) (key_at call namespace name) call.query call.body
-validated_by scope how t s call = not_served
+abbrev pub dispatch_scope : Scope → Method → ServedShape → HistoryWindow → Call → Validated Plan
+dispatch_scope of_all Get t s call = list_plan t s call.target.kind None call.query
+dispatch_scope (of_namespace namespace) Get t s call = list_plan t s call.target.kind (Some namespace) call.query
+dispatch_scope (of_namespace namespace) Post t s call = and_then (body_of call.body) (create_plan t s call.target.kind namespace call.query)
+dispatch_scope (of_object namespace name subresource) how t s call =
+    dispatch_object how subresource t s.current (object_at s (key_at call namespace name)) (key_at call namespace name) call.query call.body
+dispatch_scope scope how t s call = method_not_allowed
 
 -- where a type has the number, and the target names objects. A target is `admit`'s, which gives one of `/status` for a type that has it
 -- alone; one that is made by hand of another type is served as the object
-abbrev pub validated_at : Option ServedShape → Option Scope → Source → Call → Validated Plan
-validated_at None scope s call = no_path
-validated_at (Some t) None s call = no_path
-validated_at (Some t) (Some scope) s call = validated_by scope call.target.method t s call
+abbrev pub dispatch_type : Option ServedShape → Option Scope → HistoryWindow → Call → Validated Plan
+dispatch_type None scope s call = route_not_found
+dispatch_type (Some t) None s call = route_not_found
+dispatch_type (Some t) (Some scope) s call = dispatch_scope scope call.target.method t s call
 
-abbrev pub validated_over : List ServedShape → Source → Call → Validated Plan
-validated_over types s call = validated_at (slice_get types call.target.kind) (scope_of call.target.namespace call.target.name call.target.status) s call
+abbrev pub dispatch_call : List ServedShape → HistoryWindow → Call → Validated Plan
+dispatch_call types s call = dispatch_type (slice_get types call.target.kind) (scope_of call.target.namespace call.target.name call.target.status) s call
 
 -- a refusal is answered by its Status, and changes nothing
 abbrev pub refused : CallRefusal → Plan
@@ -369,8 +369,8 @@ plan_for (Ok p) = p
 plan_for (Err d) = refused d
 
 -- the answer of a call, and the change that it makes
-abbrev pub planned_over : List ServedShape → Source → Call → Plan
-planned_over types s call = plan_for (validated_over types s call)
+abbrev pub planned_over : List ServedShape → HistoryWindow → Call → Plan
+planned_over types s call = plan_for (dispatch_call types s call)
 
 -- at a machine
 abbrev pub planned : List ServedShape → History → Call → Plan

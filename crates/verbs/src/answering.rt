@@ -1,11 +1,11 @@
 //! What the plans of all calls share: the body of a write, what is shown, and the plan of a refusal, whose Status is made in
-//! `status`.
+//! `api_request`.
 
 ghost use Rattle.std.specs.Prelude.{◌≡◌, ◌≢◌, Err, IfOk, None, option_map, string_bytes};
 ghost use Rattle.serde_json.specs.View.{view};
 ghost use Rattle.api_request.specs.Json.{IsJson};
 ghost use Rattle.api_request.specs.Calls as calls;
-ghost use Rattle.api_request.specs.Seen.{Gives, answer_of, call_of, call_refusal_of, plan_of};
+ghost use Rattle.api_request.specs.Views.{Returns, answer_of, call_of, call_refusal_of, plan_of};
 ghost use Rattle.verbs.specs.Step.{body_of, plan_for, refused};
 ghost use Rattle.api_request.specs.Validated.{Validated, refused_for};
 ghost use Rattle.watchline.specs.Views.{watch_from};
@@ -29,7 +29,7 @@ pub(crate) fn shown(body: String, watch: Option<WatchFrom>) -> Answer
 
 /// The body of a write.
 pub fn body_of(alloc: Global, call: &Call) -> Result<&Value, CallError>
-    ensures validated { Gives (λ v. view v.now) result (body_of (call_of call.now).body) }
+    ensures validated { Returns (λ v. view v.now) result (body_of (call_of call.now).body) }
     ensures json { IfOk result (λ v. IsJson (view v.now)) }
 {
     match &call.body {
@@ -56,7 +56,7 @@ pub fn refused(alloc: Global, call_refusal: CallRefusal) -> Result<Plan, AllocEr
 
 /// The plan of what was validated: a refusal is answered too.
 pub fn plan_for(alloc: Global, validated: Result<Plan, CallError>) -> Result<Plan, Fault>
-    ensures plan_for { (answer : Validated calls.Plan) → Gives plan_of validated answer → IfOk result (λ p. plan_of p ≡ plan_for answer) }
+    ensures plan_for { (answer : Validated calls.Plan) → Returns plan_of validated answer → IfOk result (λ p. plan_of p ≡ plan_for answer) }
     ensures readable { result ≢ Err Fault.Unreadable }
 {
     match validated {

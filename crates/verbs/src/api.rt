@@ -12,7 +12,7 @@ use crate::watching::bookmarked;
 use crate::writing::{write_all, write_change};
 use api_request::{AdmitFault, Call, Plan, Routes, Target};
 use api_types::Types;
-use lists::RecentLabels;
+use lists::LabelCache;
 use revstore::{CompactFault, Store};
 use revtable::Table;
 use serde_json::Value;
@@ -38,7 +38,7 @@ pub struct Api {
     routes: Routes,
     store: Store,
     /// The labels of texts that watches have read, so that the next watch of a change need not read its text.
-    labels: RecentLabels,
+    labels: LabelCache,
 }
 
 // It is written out, so that what holds an API does not prove again how each part is dropped.
@@ -64,16 +64,16 @@ impl Api {
     ghost use Rattle.verbs.specs.Machine.{IsNext, after};
     ghost use Rattle.serde_json.specs.View as value;
     ghost use Rattle.verbs.specs.Retyping.{retyped, retyping};
-    ghost use Rattle.api_request.specs.Seen.{Admits, call_of, change_of, plan_of};
-    ghost use Rattle.verbs.specs.Seen.{ComesNext, IsFileFault, Stands, retype_refusal, told_of_file, types_of};
+    ghost use Rattle.api_request.specs.Views.{Admits, call_of, change_of, plan_of};
+    ghost use Rattle.verbs.specs.Views.{ComesNext, IsFileFault, ApiRepresents, retype_refusal, reported_of_file, types_of};
     ghost use Rattle.verbs.specs.Step.{planned};
     ghost use Rattle.verbs.specs.Watching.{bookmarked_in};
-    ghost use Rattle.watchline.specs.Views.{marking_of, turn_of};
+    ghost use Rattle.watchline.specs.Views.{bookmark_turn, turn_of};
     ghost use Rattle.watchline.specs.Watches.{from_history, is_bookmark_due, pumped};
 
     /// An API without objects, at revision 1.
     pub fn new(alloc: Global, types: Types) -> Result<Api, Fault>
-        ensures stands { IfOk result (λ api. Stands api (types_view types) (fresh 1)) }
+        ensures represents { IfOk result (λ api. ApiRepresents api (types_view types) (fresh 1)) }
         ensures readable { result ≢ Err Fault.Unreadable }
     {
         Api::new_at(alloc, types, 1)
@@ -83,7 +83,7 @@ impl Api {
     pub fn new_at(alloc: Global, types: Types, revision: u64) -> Result<Api, Fault>
         requires from { 1 ≤ revision }
         requires to { revision ≤ last_revision }
-        ensures stands { IfOk result (λ api. Stands api (types_view types) (fresh revision)) }
+        ensures represents { IfOk result (λ api. ApiRepresents api (types_view types) (fresh revision)) }
         ensures readable { result ≢ Err Fault.Unreadable }
     {
         types.types_are_of_objects();
@@ -94,7 +94,7 @@ impl Api {
             catalog,
             routes,
             store,
-            labels: RecentLabels::new(alloc),
+            labels: LabelCache::new(alloc),
         })
     }
 
@@ -126,13 +126,13 @@ impl Api {
 
     /// The plan of a call: its answer, and the change that it makes, if any. It changes nothing.
     pub fn plan(&mut self, call: &Call) -> Result<Plan, Fault>
-        ensures planned { (types : List ServedShape) (m : History) → Stands self.old types m
+        ensures planned { (types : List ServedShape) (m : History) → ApiRepresents self.old types m
             → IfOk result (λ p. plan_of p ≡ planned types m (call_of call.now)) }
-        ensures next { (types : List ServedShape) (m : History) → Stands self.old types m
+        ensures next { (types : List ServedShape) (m : History) → ApiRepresents self.old types m
             → IfOk result (λ p. IfSome p.change (λ c. IsNext types m (change_of c))) }
         ensures comes { IfOk result (λ p. IfSome p.change (λ c. ComesNext self.new (change_of c))) }
-        ensures readable { (types : List ServedShape) (m : History) → Stands self.old types m → result ≢ Err Fault.Unreadable }
-        ensures same { (types : List ServedShape) (m : History) → Stands self.old types m → Stands self.new types m }
+        ensures readable { (types : List ServedShape) (m : History) → ApiRepresents self.old types m → result ≢ Err Fault.Unreadable }
+        ensures same { (types : List ServedShape) (m : History) → ApiRepresents self.old types m → ApiRepresents self.new types m }
         ensures unchanged { self.new ≡ self.old }
     {
         planned(self.alloc, &mut self.catalog, &mut self.store, call)
@@ -141,9 +141,9 @@ impl Api {
     /// Makes the change of a plan, if it has one: a plan of what stands now. On an error nothing is changed.
     pub fn commit(&mut self, plan: &Plan) -> Result<(), Fault>
         requires { IfSome plan.now.change (λ c. ComesNext self.old (change_of c)) }
-        ensures ok { (types : List ServedShape) (m : History) → Stands self.old types m → IfSome plan.now.change (λ c. IsNext types m (change_of c))
-            → OnOk result (Stands self.new types (after m (plan_of plan.now).change)) }
-        ensures err { (types : List ServedShape) (m : History) → Stands self.old types m → OnErr result (Stands self.new types m) }
+        ensures ok { (types : List ServedShape) (m : History) → ApiRepresents self.old types m → IfSome plan.now.change (λ c. IsNext types m (change_of c))
+            → OnOk result (ApiRepresents self.new types (after m (plan_of plan.now).change)) }
+        ensures err { (types : List ServedShape) (m : History) → ApiRepresents self.old types m → OnErr result (ApiRepresents self.new types m) }
         ensures readable { result ≢ Err Fault.Unreadable }
         ensures unchanged { OnErr result (self.new ≡ self.old) }
     {
@@ -155,11 +155,11 @@ impl Api {
 
     /// The next lines of a watch, at most `max`. On an error the cursor stays; nothing else changes in any case.
     pub fn pump(&mut self, cursor: &mut WatchCursor, max: usize) -> Result<Pumped, Fault>
-        ensures pumped { (types : List ServedShape) (m : History) → Stands self.old types m
+        ensures pumped { (types : List ServedShape) (m : History) → ApiRepresents self.old types m
             → IfOk result (λ p. turn_of p cursor.new ≡ pumped (from_history m) max cursor.old) }
         ensures err { OnErr result (cursor.new ≡ cursor.old) }
         ensures readable { result ≢ Err Fault.Unreadable }
-        ensures same { (types : List ServedShape) (m : History) → Stands self.old types m → Stands self.new types m }
+        ensures same { (types : List ServedShape) (m : History) → ApiRepresents self.old types m → ApiRepresents self.new types m }
         ensures unchanged { self.new ≡ self.old }
     {
         watches_by_views();
@@ -169,8 +169,8 @@ impl Api {
     /// The line of a bookmark, where one is due: the version up to which the watch has told all. On an error the
     /// cursor stays; it needs no memory where none is due.
     pub fn bookmark(&self, cursor: &mut WatchCursor) -> Result<Option<String>, Fault>
-        ensures bookmarked { (types : List ServedShape) (m : History) → Stands self.now types m
-            → IfOk result (λ o. marking_of o cursor.new ≡ bookmarked_in types cursor.old) }
+        ensures bookmarked { (types : List ServedShape) (m : History) → ApiRepresents self.now types m
+            → IfOk result (λ o. bookmark_turn o cursor.new ≡ bookmarked_in types cursor.old) }
         ensures err { OnErr result (cursor.new ≡ cursor.old) }
         ensures needs { is_bookmark_due cursor.old ≡ false → result ≡ Ok None }
         ensures readable { result ≢ Err Fault.Unreadable }
@@ -181,10 +181,10 @@ impl Api {
     /// Forgets what no answer from this revision on can show. The revision may be any from the compacted number to the current
     /// one.
     pub fn compact(&mut self, revision: u64) -> Result<(), CompactFault>
-        ensures ok { (types : List ServedShape) (m : History) → Stands self.old types m → OnOk result (Stands self.new types (compacted_to revision m)) }
-        ensures expired { (types : List ServedShape) (m : History) → Stands self.old types m → (result ≡ Err CompactFault.Expired) ↔ (revision < m.compacted) }
-        ensures too_large { (types : List ServedShape) (m : History) → Stands self.old types m → (result ≡ Err CompactFault.TooLarge) ↔ (m.current < revision) }
-        ensures err { (types : List ServedShape) (m : History) → Stands self.old types m → OnErr result (Stands self.new types m) }
+        ensures ok { (types : List ServedShape) (m : History) → ApiRepresents self.old types m → OnOk result (ApiRepresents self.new types (compacted_to revision m)) }
+        ensures expired { (types : List ServedShape) (m : History) → ApiRepresents self.old types m → (result ≡ Err CompactFault.Expired) ↔ (revision < m.compacted) }
+        ensures too_large { (types : List ServedShape) (m : History) → ApiRepresents self.old types m → (result ≡ Err CompactFault.TooLarge) ↔ (m.current < revision) }
+        ensures err { (types : List ServedShape) (m : History) → ApiRepresents self.old types m → OnErr result (ApiRepresents self.new types m) }
         ensures unchanged { OnErr result (self.new ≡ self.old) }
     {
         self.store.compact(revision)
@@ -194,13 +194,13 @@ impl Api {
     /// maps that have become atomic, and in nothing else. Each object whose text changes gets the next revision, in the order
     /// of types, namespaces and names. Refused, or out of memory, it changes nothing.
     pub fn retype(&mut self, file: &Value) -> Result<(), RetypeFault>
-        ensures ok { (types : List ServedShape) (m : History) → Stands self.old types m
-            → OnOk result ((others : List ServedShape) × (retyping types m (value.view file.now) ≡ Ok others) × Stands self.new others (retyped types others m)) }
-        ensures refused { (types : List ServedShape) (m : History) → Stands self.old types m
+        ensures ok { (types : List ServedShape) (m : History) → ApiRepresents self.old types m
+            → OnOk result ((next_types : List ServedShape) × (retyping types m (value.view file.now) ≡ Ok next_types) × ApiRepresents self.new next_types (retyped types next_types m)) }
+        ensures refused { (types : List ServedShape) (m : History) → ApiRepresents self.old types m
             → IfErr result (λ e. IfSome (retype_refusal e) (λ why. retyping types m (value.view file.now) ≡ Err why)) }
-        ensures err { (types : List ServedShape) (m : History) → Stands self.old types m → OnErr result (Stands self.new types m) }
-        ensures told { IfErr result (λ e. IfSome (told_of_file e) (IsFileFault (value.view file.now))) }
-        ensures readable { (types : List ServedShape) (m : History) → Stands self.old types m → result ≢ Err (RetypeFault.Failed Fault.Unreadable) }
+        ensures err { (types : List ServedShape) (m : History) → ApiRepresents self.old types m → OnErr result (ApiRepresents self.new types m) }
+        ensures reported { IfErr result (λ e. IfSome (reported_of_file e) (IsFileFault (value.view file.now))) }
+        ensures readable { (types : List ServedShape) (m : History) → ApiRepresents self.old types m → result ≢ Err (RetypeFault.Failed Fault.Unreadable) }
         ensures unchanged { OnErr result (self.new ≡ self.old) }
     {
         let catalog = catalog_in(self.alloc, file)?;
@@ -213,7 +213,7 @@ impl Api {
 
     /// The current revision and the compacted number.
     pub fn marks(&self) -> Result<(u64, u64), Fault>
-        ensures { (types : List ServedShape) (m : History) → Stands self.now types m → result ≡ Ok (m.current, m.compacted) }
+        ensures { (types : List ServedShape) (m : History) → ApiRepresents self.now types m → result ≡ Ok (m.current, m.compacted) }
     {
         Ok((self.store.current(), self.store.compacted()))
     }

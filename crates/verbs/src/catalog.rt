@@ -1,15 +1,15 @@
 //! The types that are served, and of some of their objects the states that their texts say. These states only save time:
 //! a write that finds none reads the object's text, with the same result. They are kept in the slots of `slot`.
 
-use crate::remembered::Remembered;
+use crate::cached::CachedState;
 use crate::slot::{Slot, empty_slots, put_in, slot_of, taken_from};
 use api_request::{Plan, Scope, Target};
 use api_types::Types;
 use std::alloc::{AllocError, Global};
 use std::marker::Model;
 
-/// The types. Beside them the state that a write read or stored last is remembered with its text, so that the next write of the
-/// object need not read it back. The model's value is the types alone, so no contract of the API tells what is remembered; that
+/// The types. Beside them the state that a write read or stored last is cached with its text, so that the next write of the
+/// object need not read it back. The model's value is the types alone, so no contract of the API tells what is cached; that
 /// each state is the one which its text says is the invariant.
 #[derive(Drop)]
 pub struct Catalog {
@@ -21,8 +21,8 @@ impl Model for Catalog {
     ghost use Rattle.std.specs.Prelude.{List};
     ghost use Rattle.api_types.specs.Served.{types_view};
     ghost use Rattle.api_types.specs.TypesFile.{ServedShape};
-    ghost use Rattle.verbs.specs.Remembered.{AreRight};
-    ghost use Rattle.verbs.specs.TypeCodes.{coded_types};
+    ghost use Rattle.verbs.specs.CachedStateViews.{AreCoherent};
+    ghost use Rattle.verbs.specs.TypeCodeViews.{coded_types};
 
     ghost Value = { List ServedShape };
 
@@ -30,7 +30,7 @@ impl Model for Catalog {
 
     ghost view = { λ c. types_view c.types };
 
-    ghost invariant = { λ c. AreRight (types_view c.types) c.slots.items };
+    ghost invariant = { λ c. AreCoherent (types_view c.types) c.slots.items };
 }
 
 /// The slot of the object that a call changes, or else of the one that it names: a POST names none, and its change does.
@@ -53,9 +53,9 @@ fn slot_at(target: &Target) -> Option<usize> {
 impl Catalog {
     ghost use Rattle.std.specs.Prelude.{◌≡◌, IfOk, IfSome};
     ghost use Rattle.api_types.specs.Served.{types_view};
-    ghost use Rattle.verbs.specs.Remembered.{IsRightAt};
+    ghost use Rattle.verbs.specs.CachedStateViews.{IsCoherentAt};
 
-    /// These types, of whose objects nothing is remembered.
+    /// These types, of whose objects nothing is cached.
     pub(crate) fn new(alloc: Global, types: Types) -> Result<Catalog, AllocError>
         ensures { IfOk result (λ c. c ≡ types_view types) }
     {
@@ -72,26 +72,26 @@ impl Catalog {
 
     /// What the slot of the object that a call names holds, if it is of the same type: it is returned, and no longer kept
     /// here. It may be of another object of the type; whoever takes it compares the text.
-    pub(crate) fn take(&mut self, target: &Target) -> Option<Remembered>
-        ensures right { IfSome result (IsRightAt self.old target.now.kind) }
+    pub(crate) fn take(&mut self, target: &Target) -> Option<CachedState>
+        ensures coherent { IfSome result (IsCoherentAt self.old target.now.kind) }
         ensures same { self.new ≡ self.old }
     {
         let at = slot_at(target)?;
         taken_from(&mut self.slots, at, target.kind)
     }
 
-    /// Keeps what is to be remembered after a call with this plan. Where that is nothing, the slot stays as `take` left
+    /// Keeps what is to be cached after a call with this plan. Where that is nothing, the slot stays as `take` left
     /// it.
-    pub(crate) fn keep(&mut self, target: &Target, plan: &Plan, remembered: Option<Remembered>)
-        requires { IfSome remembered (IsRightAt self.old target.now.kind) }
+    pub(crate) fn keep(&mut self, target: &Target, plan: &Plan, cached: Option<CachedState>)
+        requires { IfSome cached (IsCoherentAt self.old target.now.kind) }
         ensures { self.new ≡ self.old }
     {
         let Some(at) = slot_in(target, plan) else {
             return;
         };
-        if remembered.is_some() {
+        if cached.is_some() {
             let kind = target.kind;
-            put_in(&mut self.slots, at, Slot { kind, remembered });
+            put_in(&mut self.slots, at, Slot { kind, cached });
         }
     }
 }

@@ -4,15 +4,15 @@ ghost use Rattle.std.specs.Prelude.{◌≡◌, IfOk, map};
 ghost use Rattle.serde_json.specs.View.{items_view, view};
 ghost use Rattle.schema.specs.Shape.{Shape};
 ghost use Rattle.typed.specs.Fitting.{IsContent};
-ghost use Rattle.objects.specs.Placed.{IsPlacedState};
+ghost use Rattle.objects.specs.WellTyped.{IsWellTypedState};
 ghost use Rattle.objects.specs.Owners.{apply_operation};
 ghost use Rattle.ownership.specs.Results.{conflict_of};
 ghost use Rattle.ownership.specs.Sides.{own_part};
 ghost use Rattle.objects.specs.Views.{state_of};
 ghost use Rattle.api_validation.specs.Envelope.{api_version_of};
-ghost use Rattle.verbs.specs.Planner.{type_of};
-ghost use Rattle.api_request.specs.Seen.{Gives, call_refusal_of};
-ghost use Rattle.verbs.specs.Seen.{intent_seen};
+ghost use Rattle.verbs.specs.PlannerViews.{type_of};
+ghost use Rattle.api_request.specs.Views.{Returns, call_refusal_of};
+ghost use Rattle.verbs.specs.Views.{intent_seen};
 ghost use Rattle.verbs.specs.Step.{cause_of, causes_of, conflict_refusal, manager_for, ownership_validated};
 
 use crate::planner::Planner;
@@ -77,10 +77,10 @@ impl Planner<'_> {
     }
 
     /// Applies what is intended over what stands, unless other managers own what it changes.
-    pub(crate) fn applied(self, live: &Owned, intent: Intent<'_>) -> Result<Owned, CallError>
+    pub(crate) fn applied(self, existing: &Owned, intent: Intent<'_>) -> Result<Owned, CallError>
         ensures validated { let i = intent_seen intent.entry in
-            Gives state_of result (ownership_validated (api_version_of (type_of self.entry)) (state_of live.now) (own_part i.subresource i.content) (manager_for apply_operation i) i.is_forced) }
-        ensures placed { (s : Shape) → IsContent s intent.entry.content → IsPlacedState s (state_of live.now) → IfOk result (λ o. IsPlacedState s (state_of o)) }
+            Returns state_of result (ownership_validated (api_version_of (type_of self.entry)) (state_of existing.now) (own_part i.subresource i.content) (manager_for apply_operation i) i.is_forced) }
+        ensures well_typed { (s : Shape) → IsContent s intent.entry.content → IsWellTypedState s (state_of existing.now) → IfOk result (λ o. IsWellTypedState s (state_of o)) }
     {
         let Intent {
             content,
@@ -91,7 +91,7 @@ impl Planner<'_> {
         } = intent;
         match apply(
             self.alloc,
-            live,
+            existing,
             manager.as_str(),
             subresource,
             content,

@@ -33,7 +33,7 @@ impl From<AllocError> for Fault {
 
 impl From<revtable::Fault> for Fault {
     ghost use Rattle.std.specs.Prelude.{◌≡◌};
-    ghost use Rattle.verbs.specs.Faults.{fault_of};
+    ghost use Rattle.verbs.specs.FaultViews.{fault_of};
 
     ghost from_gives = { λ fault e. e ≡ fault_of fault };
 

@@ -1,4 +1,4 @@
-//! The identity of an object, by its type and key: what its text names. What a body has to name stands in `envelope`.
+//! The identity of an object, by its type and key: what its text names. What a body has to name stands in `api_validation`.
 
 ghost use Rattle.std.specs.Prelude.{◌≡◌};
 ghost use Rattle.api_types.specs.Served as types;

@@ -1,7 +1,7 @@
-//! Laws of calls (the step of a machine); paths stand in `route_laws`. Each function does nothing; what it promises is
+//! Laws of calls (the step of a machine); those of paths stand in `api_request`. Each function does nothing; what it promises is
 //! the law.
 
-ghost use Rattle.verbs.specs.Promise.{AppliesKeepOthers, BodiesSayStates, CallsChangeOneObject, CallsKeepMachines, CompactionsKeepMachines, ErrorsAreRefusals, GetsChangeNothing, MachinesBegin, ManagersOwnTheirSides, PlansAreShort, PlansByViews, PlansComeNext, RefusalsChangeNothing, RetypingsCarryObjects, RetypingsKeepMachines, RetypingsLeaveTexts, SameTypesChangeNothing, StandingTextsSayStates, StepsKeepMachines, TextsSayStates, UpdatesTakeChanges, WritesLeaveOtherSide};
+ghost use Rattle.verbs.specs.PromiseLaws.{AppliesKeepOthers, BodiesSayStates, CallsChangeOneObject, CallsKeepMachines, CompactionsKeepMachines, ErrorsAreRefusals, GetsChangeNothing, MachinesBegin, ManagersOwnTheirSides, PlansAreShort, PlansByViews, PlansComeNext, RefusalsChangeNothing, RetypingsCarryObjects, RetypingsKeepMachines, RetypingsLeaveTexts, SameTypesChangeNothing, StoredTextsDecode, StepsKeepMachines, TextsSayStates, UpdatesTakeChanges, WritesLeaveOtherSide};
 
 /// A machine begins without a change. What a call plans may come next, and a text in it is no longer than an object may
 /// be; a machine stays one over each call, over calls one after the other, and over a compaction.
@@ -24,7 +24,7 @@ pub fn plans_by_views()
 pub fn texts_say_states()
     ensures revisions { TextsSayStates }
     ensures changes { BodiesSayStates }
-    ensures stands { StandingTextsSayStates }
+    ensures represents { StoredTextsDecode }
 {}
 
 /// An apply without force changes no field that another manager owns.

@@ -11,20 +11,20 @@
 
 mod answering;
 mod api;
+mod cached;
 mod catalog;
 mod conflicts;
+mod existing;
 mod fault;
 mod identity;
 mod laws;
 mod listing;
-mod live;
 mod planner;
 mod plans;
+mod preconditions;
 mod presence;
-mod remembered;
 mod retyping;
 mod slot;
-mod storing;
 mod validating;
 mod watching;
 mod writing;

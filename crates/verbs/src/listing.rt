@@ -9,10 +9,10 @@ ghost use Rattle.lists.specs.Views as views;
 ghost use Rattle.lists.specs.declared.refusal.Refusal.{Refusal};
 ghost use Rattle.api_request.specs.declared.reason.Reason.TheVariants.{Timeout};
 ghost use Rattle.api_request.specs.Calls as calls;
-ghost use Rattle.verbs.specs.Planner.{asked_of, type_of};
-ghost use Rattle.api_request.specs.Seen.{Refuses, RefusesFor, answer_of, plan_of};
+ghost use Rattle.verbs.specs.PlannerViews.{call_of_entry, type_of};
+ghost use Rattle.api_request.specs.Views.{Refuses, RefusesFor, answer_of, plan_of};
 ghost use Rattle.watchline.specs.Watches.{from_view};
-ghost use Rattle.verbs.specs.Step.{list_answered, list_refusal, list_validated, plan_for, shown_by, too_large_message};
+ghost use Rattle.verbs.specs.Step.{list_answered, list_refusal, list_plan, plan_for, shown_by, too_large_message};
 
 use crate::answering::{plan_for, shown};
 use crate::fault::Fault;
@@ -30,7 +30,7 @@ pub(crate) fn too_large(alloc: Global, asked: u64, current: u64) -> CallError
     ensures { RefusesFor result Timeout (too_large_message asked current) }
 {
     let message = format!(in alloc; "Too large resource version: {asked}, current: {current}");
-    CallError::told(alloc, Reason::Timeout, message)
+    CallError::reported(alloc, Reason::Timeout, message)
 }
 
 /// Why there is no list of a revision, or no watch from it on.
@@ -40,7 +40,7 @@ fn list_refusal(alloc: Global, refusal: Refusal) -> CallError
     match refusal {
         Refusal::Expired(asked, compacted) => {
             let message = expired_message(alloc, asked, compacted);
-            CallError::told(alloc, Reason::Expired, message)
+            CallError::reported(alloc, Reason::Expired, message)
         }
         Refusal::TooLarge(asked, current) => too_large(alloc, asked, current),
     }
@@ -48,7 +48,7 @@ fn list_refusal(alloc: Global, refusal: Refusal) -> CallError
 
 /// Why there is neither a list nor a watch: a refusal is answered.
 fn list_failed(alloc: Global, fault: ListFault) -> Result<Plan, Fault>
-    ensures planned { (answer : Result calls.Answer Refusal) → views.Fails fault answer → IfOk result (λ p. plan_of p ≡ plan_for (list_answered answer)) }
+    ensures planned { (answer : Result calls.Answer Refusal) → views.FailsWith fault answer → IfOk result (λ p. plan_of p ≡ plan_for (list_answered answer)) }
     ensures readable { result ≢ Err Fault.Unreadable }
 {
     match fault {
@@ -65,7 +65,7 @@ fn answered(
     of: Collection<'_>,
     params: Params,
 ) -> Result<Answer, ListFault>
-    ensures answered { views.Gives answer_of result (shown_by (from_view store.old) (views.collection_of of.entry) (values_of params) (values_of params).watch) }
+    ensures answered { views.Returns answer_of result (shown_by (from_view store.old) (views.collection_of of.entry) (values_of params) (values_of params).watch) }
     ensures same { store.new ≡ store.old }
 {
     let watch = params.watch;
@@ -80,9 +80,13 @@ fn answered(
 
 impl Planner<'_> {
     /// A list of a namespace, or of all, or a watch of these. Checks, in order: parameters, the revision.
-    pub(crate) fn listed(self, store: &mut Store, namespace: Option<&str>) -> Result<Plan, Fault>
-        ensures planned { let c = asked_of self.entry in
-            IfOk result (λ p. plan_of p ≡ plan_for (list_validated (type_of self.entry) (from_view store.old) c.target.kind (option_map (λ s. s.now) namespace.entry) c.query)) }
+    pub(crate) fn plan_list_from(
+        self,
+        store: &mut Store,
+        namespace: Option<&str>,
+    ) -> Result<Plan, Fault>
+        ensures planned { let c = call_of_entry self.entry in
+            IfOk result (λ p. plan_of p ≡ plan_for (list_plan (type_of self.entry) (from_view store.old) c.target.kind (option_map (λ s. s.now) namespace.entry) c.query)) }
         ensures readable { result ≢ Err Fault.Unreadable }
         ensures same { store.new ≡ store.old }
     {

@@ -1,8 +1,8 @@
-//! What the plans of calls on a served type share. What a write starts from stands in `live`.
+//! What the plans of calls on a served type share. What a write starts from stands in `existing`.
 
 ghost use Rattle.std.specs.Prelude.{◌≡◌, IfOk};
 ghost use Rattle.history.specs.Read.{key_of};
-ghost use Rattle.verbs.specs.Planner.{asked_of};
+ghost use Rattle.verbs.specs.PlannerViews.{call_of_entry};
 ghost use Rattle.verbs.specs.Step.{key_at};
 
 use api_request::Call;
@@ -22,7 +22,7 @@ pub(crate) struct Planner<'a> {
 impl Planner<'_> {
     /// The key of an object of the type.
     pub(crate) fn key(self, namespace: &str, name: &str) -> Result<Key, AllocError>
-        ensures { IfOk result (λ k. key_of k ≡ key_at (asked_of self.entry) namespace.now name.now) }
+        ensures { IfOk result (λ k. key_of k ≡ key_at (call_of_entry self.entry) namespace.now name.now) }
     {
         Ok(Key {
             kind: self.call.target.kind,

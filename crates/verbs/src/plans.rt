@@ -7,23 +7,23 @@ ghost use Rattle.api_types.specs.Served.{types_view};
 ghost use Rattle.api_types.specs.TypesFile.{ServedShape};
 ghost use Rattle.history.specs.Read.{key_of};
 ghost use Rattle.api_request.specs.Calls as calls;
-ghost use Rattle.verbs.specs.Live.{IsLive, object_in};
+ghost use Rattle.verbs.specs.ExistingViews.{IsWellDecoded, object_in};
 ghost use Rattle.verbs.specs.Machine.{AreTexts, IsReadable};
-ghost use Rattle.verbs.specs.Planner.{IsPlanner, asked_of, type_of};
-ghost use Rattle.verbs.specs.Remembered.{IsRight, IsRightAt};
-ghost use Rattle.api_request.specs.Seen.{Gives, call_of, plan_of, scope_seen};
-ghost use Rattle.verbs.specs.Seen.{objects_in};
-ghost use Rattle.verbs.specs.Step.{body_of, create_validated, get_validated, key_at, plan_for, planned_over, validated_by, write_validated_by};
+ghost use Rattle.verbs.specs.PlannerViews.{IsSoundPlanner, call_of_entry, type_of};
+ghost use Rattle.verbs.specs.CachedStateViews.{IsCoherent, IsCoherentAt};
+ghost use Rattle.api_request.specs.Views.{Returns, call_of, plan_of, scope_seen};
+ghost use Rattle.verbs.specs.Views.{objects_in};
+ghost use Rattle.verbs.specs.Step.{body_of, create_plan, get_plan, key_at, plan_for, planned_over, dispatch_scope, dispatch_write};
 ghost use Rattle.api_request.specs.Validated.{Validated, and_then};
-ghost use Rattle.verbs.specs.WritePlans.{RemembersRight, written_plan};
+ghost use Rattle.verbs.specs.WritePlanViews.{CachesCoherently, written_plan};
 ghost use Rattle.watchline.specs.Watches.{from_view};
 
 use crate::answering::{plan_for, refused_for};
+use crate::cached::{CachedState, WritePlan};
 use crate::catalog::Catalog;
+use crate::existing::{Existing, existing_at};
 use crate::fault::Fault;
-use crate::live::{Live, live_at};
 use crate::planner::Planner;
-use crate::remembered::{Remembered, WritePlan};
 use crate::validating::Creation;
 use api_request::{Call, CallError, Method, NO_PATH, NOT_SERVED, Plan, Reason, Scope};
 use api_types::Types;
@@ -37,16 +37,16 @@ use std::alloc::Global;
 fn plan_written(
     alloc: Global,
     written: Result<WritePlan, CallError>,
-    known: &mut Option<Remembered>,
+    known: &mut Option<CachedState>,
 ) -> Result<Plan, Fault>
-    ensures plan_for { (answer : Validated calls.Plan) → Gives written_plan written answer → IfOk result (λ p. plan_of p ≡ plan_for answer) }
+    ensures plan_for { (answer : Validated calls.Plan) → Returns written_plan written answer → IfOk result (λ p. plan_of p ≡ plan_for answer) }
     ensures readable { result ≢ Err Fault.Unreadable }
-    ensures right { (t : ServedShape) → IfOk written (RemembersRight t) → IfSome known.old (IsRight t) → IfSome known.new (IsRight t) }
+    ensures coherent { (t : ServedShape) → IfOk written (CachesCoherently t) → IfSome known.old (IsCoherent t) → IfSome known.new (IsCoherent t) }
 {
     match written {
-        Ok(WritePlan { plan, remembered }) => {
+        Ok(WritePlan { plan, cached }) => {
             if plan.change.is_some() {
-                *known = remembered;
+                *known = cached;
             }
             Ok(plan)
         }
@@ -56,89 +56,89 @@ fn plan_written(
 
 impl Planner<'_> {
     /// A get of an object.
-    fn got(self, store: &mut Store, namespace: &str, name: &str) -> Result<Plan, Fault>
+    fn plan_get_from(self, store: &mut Store, namespace: &str, name: &str) -> Result<Plan, Fault>
         requires { self.current ≡ store.old.current }
-        ensures planned { let c = asked_of self.entry in let k = key_at c namespace.now name.now in
-            IfOk result (λ p. plan_of p ≡ plan_for (get_validated (type_of self.entry) store.old.current (fin.get (objects_in store.old) k) k c.query)) }
+        ensures planned { let c = call_of_entry self.entry in let k = key_at c namespace.now name.now in
+            IfOk result (λ p. plan_of p ≡ plan_for (get_plan (type_of self.entry) store.old.current (fin.get (objects_in store.old) k) k c.query)) }
         ensures readable { result ≢ Err Fault.Unreadable }
         ensures same { store.new ≡ store.old }
     {
         let key = self.key(namespace, name)?;
         let object = store.get(&key)?;
-        plan_for(self.alloc, self.validate_get(&key, object))
+        plan_for(self.alloc, self.plan_get(&key, object))
     }
 
     /// The checks of a write of one object, by its method.
-    fn validate_write(
+    fn plan_write(
         self,
         key: Key,
         subresource: Subresource,
-        live: &Live,
+        existing: &Existing,
     ) -> Result<WritePlan, CallError>
-        requires planner { IsPlanner self }
-        requires live { IsLive (type_of self) live.now }
-        ensures plan { let c = asked_of self.entry in
-            Gives written_plan result (write_validated_by c.target.method subresource (type_of self.entry) self.entry.current (object_in live.now) (key_of key) c.query c.body) }
-        ensures right { IfOk result (RemembersRight (type_of self.entry)) }
+        requires planner { IsSoundPlanner self }
+        requires existing { IsWellDecoded (type_of self) existing.now }
+        ensures plan { let c = call_of_entry self.entry in
+            Returns written_plan result (dispatch_write c.target.method subresource (type_of self.entry) self.entry.current (object_in existing.now) (key_of key) c.query c.body) }
+        ensures coherent { IfOk result (CachesCoherently (type_of self.entry)) }
     {
         match (self.call.target.method, subresource) {
-            (Method::Put, _) => self.validate_update(key, subresource, live),
-            (Method::Patch, _) => self.validate_apply(key, subresource, live),
-            (Method::Delete, Subresource::Main) => self.validate_delete(key, live),
+            (Method::Put, _) => self.plan_update(key, subresource, existing),
+            (Method::Patch, _) => self.plan_apply(key, subresource, existing),
+            (Method::Delete, Subresource::Main) => self.plan_delete(key, existing),
             _ => { Err(CallError::refused_for(self.alloc, Reason::MethodNotAllowed, NOT_SERVED)) }
         }
     }
 
-    /// A write of an object: it begins from the state that is remembered of the text that stands, or else from that text.
-    fn written(
+    /// A write of an object: it begins from the state that is cached of the text that stands, or else from that text.
+    fn plan_write_from(
         self,
         store: &mut Store,
         namespace: &str,
         name: &str,
         subresource: Subresource,
-        known: &mut Option<Remembered>,
+        known: &mut Option<CachedState>,
     ) -> Result<Plan, Fault>
-        requires planner { IsPlanner self }
+        requires planner { IsSoundPlanner self }
         requires current { self.current ≡ store.old.current }
-        requires right { IfSome known.old (IsRight (type_of self)) }
-        ensures planned { let c = asked_of self.entry in let k = key_at c namespace.now name.now in
-            IfOk result (λ p. plan_of p ≡ plan_for (write_validated_by c.target.method subresource (type_of self.entry) store.old.current (fin.get (objects_in store.old) k) k c.query c.body)) }
-        ensures readable { let k = key_at (asked_of self.entry) namespace.now name.now in
+        requires coherent { IfSome known.old (IsCoherent (type_of self)) }
+        ensures planned { let c = call_of_entry self.entry in let k = key_at c namespace.now name.now in
+            IfOk result (λ p. plan_of p ≡ plan_for (dispatch_write c.target.method subresource (type_of self.entry) store.old.current (fin.get (objects_in store.old) k) k c.query c.body)) }
+        ensures readable { let k = key_at (call_of_entry self.entry) namespace.now name.now in
             IsReadable (type_of self.entry) k (fin.get (objects_in store.old) k) → result ≢ Err Fault.Unreadable }
-        ensures right { IfSome known.new (IsRight (type_of self.entry)) }
+        ensures coherent { IfSome known.new (IsCoherent (type_of self.entry)) }
         ensures same { store.new ≡ store.old }
     {
         let key = self.key(namespace, name)?;
         let object = store.get(&key)?;
-        let live = live_at(self.alloc, self.served, &key, object, known.take())?;
-        let written = self.validate_write(key, subresource, &live);
-        *known = live.into_remembered();
+        let existing = existing_at(self.alloc, self.served, &key, object, known.take())?;
+        let written = self.plan_write(key, subresource, &existing);
+        *known = existing.into_cached();
         plan_written(self.alloc, written, known)
     }
 
     /// A creation in a namespace: the body names the object.
-    fn created(
+    fn plan_create_in(
         self,
         store: &mut Store,
         namespace: &str,
-        known: &mut Option<Remembered>,
+        known: &mut Option<CachedState>,
     ) -> Result<Plan, Fault>
-        requires planner { IsPlanner self }
+        requires planner { IsSoundPlanner self }
         requires current { self.current ≡ store.old.current }
-        requires right { IfSome known.old (IsRight (type_of self)) }
-        ensures planned { let c = asked_of self.entry in
-            IfOk result (λ p. plan_of p ≡ plan_for (and_then (body_of c.body) (create_validated (type_of self.entry) (from_view store.old) c.target.kind namespace.now c.query))) }
+        requires coherent { IfSome known.old (IsCoherent (type_of self)) }
+        ensures planned { let c = call_of_entry self.entry in
+            IfOk result (λ p. plan_of p ≡ plan_for (and_then (body_of c.body) (create_plan (type_of self.entry) (from_view store.old) c.target.kind namespace.now c.query))) }
         ensures readable { result ≢ Err Fault.Unreadable }
-        ensures right { IfSome known.new (IsRight (type_of self.entry)) }
+        ensures coherent { IfSome known.new (IsCoherent (type_of self.entry)) }
         ensures same { store.new ≡ store.old }
     {
         let Creation { key, intent } = match self.validate_creation(namespace) {
             Ok(creation) => creation,
             Err(call_error) => return plan_for(self.alloc, Err(call_error)),
         };
-        let standing = store.get(&key)?;
-        let created = self.validate_created(key, standing.as_ref(), intent);
-        plan_written(self.alloc, created, known)
+        let stored = store.get(&key)?;
+        let plan_create_in = self.plan_created(key, stored.as_ref(), intent);
+        plan_written(self.alloc, plan_create_in, known)
     }
 
     /// By the method and the objects that the call is of.
@@ -146,37 +146,44 @@ impl Planner<'_> {
         self,
         store: &mut Store,
         scope: Scope<'_>,
-        known: &mut Option<Remembered>,
+        known: &mut Option<CachedState>,
     ) -> Result<Plan, Fault>
-        requires planner { IsPlanner self }
+        requires planner { IsSoundPlanner self }
         requires current { self.current ≡ store.old.current }
-        requires right { IfSome known.old (IsRight (type_of self)) }
-        ensures planned { let c = asked_of self.entry in
-            IfOk result (λ p. plan_of p ≡ plan_for (validated_by (scope_seen scope.entry) c.target.method (type_of self.entry) (from_view store.old) c)) }
+        requires coherent { IfSome known.old (IsCoherent (type_of self)) }
+        ensures planned { let c = call_of_entry self.entry in
+            IfOk result (λ p. plan_of p ≡ plan_for (dispatch_scope (scope_seen scope.entry) c.target.method (type_of self.entry) (from_view store.old) c)) }
         ensures readable { (all : List ServedShape) → slice_get all self.entry.call.now.target.kind ≡ Some (type_of self.entry) → AreTexts all (objects_in store.old) → result ≢ Err Fault.Unreadable }
-        ensures right { IfSome known.new (IsRight (type_of self.entry)) }
+        ensures coherent { IfSome known.new (IsCoherent (type_of self.entry)) }
         ensures same { store.new ≡ store.old }
     {
         match (scope, self.call.target.method) {
-            (Scope::All, Method::Get) => self.listed(store, None),
-            (Scope::Namespace(namespace), Method::Get) => self.listed(store, Some(namespace)),
-            (Scope::Namespace(namespace), Method::Post) => self.created(store, namespace, known),
-            (Scope::Object(namespace, name, _), Method::Get) => self.got(store, namespace, name),
-            (Scope::Object(namespace, name, subresource), Method::Put) => self.written(
+            (Scope::All, Method::Get) => self.plan_list_from(store, None),
+            (Scope::Namespace(namespace), Method::Get) => self.plan_list_from(
+                store,
+                Some(namespace),
+            ),
+            (Scope::Namespace(namespace), Method::Post) => self.plan_create_in(
+                store, namespace, known,
+            ),
+            (Scope::Object(namespace, name, _), Method::Get) => self.plan_get_from(
+                store, namespace, name,
+            ),
+            (Scope::Object(namespace, name, subresource), Method::Put) => self.plan_write_from(
                 store,
                 namespace,
                 name,
                 subresource,
                 known,
             ),
-            (Scope::Object(namespace, name, subresource), Method::Patch) => self.written(
+            (Scope::Object(namespace, name, subresource), Method::Patch) => self.plan_write_from(
                 store,
                 namespace,
                 name,
                 subresource,
                 known,
             ),
-            (Scope::Object(namespace, name, subresource), Method::Delete) => self.written(
+            (Scope::Object(namespace, name, subresource), Method::Delete) => self.plan_write_from(
                 store,
                 namespace,
                 name,
@@ -188,18 +195,18 @@ impl Planner<'_> {
     }
 }
 
-/// The plan of a call, where this is remembered of the object that it is of.
+/// The plan of a call, where this is cached of the object that it is of.
 fn planned_over(
     alloc: Global,
     all: &Types,
     store: &mut Store,
     call: &Call,
-    known: &mut Option<Remembered>,
+    known: &mut Option<CachedState>,
 ) -> Result<Plan, Fault>
-    requires { IfSome known.old (IsRightAt (types_view all.now) call.now.target.kind) }
+    requires { IfSome known.old (IsCoherentAt (types_view all.now) call.now.target.kind) }
     ensures planned { IfOk result (λ p. plan_of p ≡ planned_over (types_view all.now) (from_view store.old) (call_of call.now)) }
     ensures readable { AreTexts (types_view all.now) (objects_in store.old) → result ≢ Err Fault.Unreadable }
-    ensures right { IfSome known.new (IsRightAt (types_view all.now) call.now.target.kind) }
+    ensures coherent { IfSome known.new (IsCoherentAt (types_view all.now) call.now.target.kind) }
     ensures same { store.new ≡ store.old }
 {
     let Some(served) = all.get(call.target.kind) else {

@@ -1,12 +1,12 @@
-//! Refuses a call whose object isn't there, or is there already. What stands is read in `live`.
+//! Refuses a call whose object isn't there, or is there already. What stands is read in `existing`.
 
 ghost use Rattle.std.specs.Prelude.{codes, option_map};
 ghost use Rattle.history.specs.Read.{key_of};
 ghost use Rattle.api_request.specs.declared.reason.Reason.TheVariants.{AlreadyExists, NotFound};
-ghost use Rattle.verbs.specs.Planner.{type_of};
-ghost use Rattle.api_request.specs.Seen.{Gives, RefusesFor};
-ghost use Rattle.verbs.specs.Seen.{object_of};
-ghost use Rattle.verbs.specs.Step.{said_of_object, there_for};
+ghost use Rattle.verbs.specs.PlannerViews.{type_of};
+ghost use Rattle.api_request.specs.Views.{Returns, RefusesFor};
+ghost use Rattle.verbs.specs.Views.{object_of};
+ghost use Rattle.verbs.specs.Step.{said_of_object, require_object_of_status};
 
 use crate::planner::Planner;
 use api_request::{CallError, Reason};
@@ -22,19 +22,19 @@ impl Planner<'_> {
         let group = &self.served.group;
         let name = &key.name;
         let message = format!(in self.alloc; "{plural}.{group} \"{name}\" not found");
-        CallError::told(self.alloc, Reason::NotFound, message)
+        CallError::reported(self.alloc, Reason::NotFound, message)
     }
 
     /// A status is written of an object that is there.
-    pub(crate) fn check_there(
+    pub(crate) fn check_object_of_status(
         self,
         subresource: Subresource,
         key: &Key,
-        live: Option<&Object>,
+        existing: Option<&Object>,
     ) -> Result<(), CallError>
-        ensures { Gives (λ u. u) result (there_for subresource (type_of self.entry) (key_of key.now).name (option_map (λ o. object_of o.now) live.entry)) }
+        ensures { Returns (λ u. u) result (require_object_of_status subresource (type_of self.entry) (key_of key.now).name (option_map (λ o. object_of o.now) existing.entry)) }
     {
-        match (subresource, live) {
+        match (subresource, existing) {
             (Subresource::Status, None) => Err(self.not_found(key)),
             _ => Ok(()),
         }
@@ -48,6 +48,6 @@ impl Planner<'_> {
         let group = &self.served.group;
         let name = &key.name;
         let message = format!(in self.alloc; "{plural}.{group} \"{name}\" already exists");
-        CallError::told(self.alloc, Reason::AlreadyExists, message)
+        CallError::reported(self.alloc, Reason::AlreadyExists, message)
     }
 }

@@ -10,22 +10,22 @@ ghost use Rattle.api_types.specs.Served as types;
 ghost use Rattle.api_types.specs.Served.{types_view};
 ghost use Rattle.api_types.specs.TypesFile.{ServedShape, declared_types};
 ghost use Rattle.typed.specs.Fitting.{IsContent};
-ghost use Rattle.objects.specs.Placed.{IsPlacedState};
+ghost use Rattle.objects.specs.WellTyped.{IsWellTypedState};
 ghost use Rattle.objects.specs.Views.{state_of};
 ghost use Rattle.history.specs.History.{History};
 ghost use Rattle.history.specs.Page.{listed};
 ghost use Rattle.history.specs.Read.{entry_of, key_of, write_of};
 ghost use Rattle.history.specs.View.{view};
-ghost use Rattle.verbs.specs.Gathered.{AreReadable, AreWritable, IsReadableEntry, IsTooMany, IsNewText, carried_at, file_fault, gathered, new_types, old_types};
+ghost use Rattle.verbs.specs.GatheredViews.{AreReadable, AreWritable, IsReadableEntry, IsTooMany, IsNewText, carried_at, file_fault, gathered, new_types, old_types};
 ghost use Rattle.verbs.specs.Machine.{AreTexts, IsMachine};
-ghost use Rattle.verbs.specs.Retyping.{if_lawful, retyping, retyping_writes};
-ghost use Rattle.verbs.specs.Seen.{IsFileFault, objects_in, retype_refusal, told_of_file};
+ghost use Rattle.verbs.specs.Retyping.{if_compatible, retyping, retyping_writes};
+ghost use Rattle.verbs.specs.Views.{IsFileFault, objects_in, retype_refusal, reported_of_file};
 ghost use Rattle.verbs.specs.Step.{text_at};
 
 use crate::catalog::Catalog;
+use crate::existing::read_stored;
 use crate::fault::{Fault, RetypeFault};
 use crate::identity::identity_of;
-use crate::live::read_stored;
 use api_types::{Retyping, Served, Types, TypesFault};
 use api_validation::api_version_of;
 use history::{Entry, Key, LAST_REVISION, Write};
@@ -78,7 +78,7 @@ impl Retyper<'_> {
     /// The state of an object under its new type.
     fn carried(self, entry: &Entry) -> Result<Owned, Fault>
         ensures state { IfOk result (λ o. carried_at (old_types self.entry) (new_types self.entry) (entry_of entry.now) ≡ Some (state_of o)) }
-        ensures placed { IfOk result (λ o. (u : ServedShape) → slice_get (new_types self.entry) entry.now.key.kind ≡ Some u → IsPlacedState u.shape (state_of o)) }
+        ensures well_typed { IfOk result (λ o. (u : ServedShape) → slice_get (new_types self.entry) entry.now.key.kind ≡ Some u → IsWellTypedState u.shape (state_of o)) }
         ensures readable { IsReadableEntry (old_types self.entry) (entry_of entry.now) → result ≢ Err Fault.Unreadable }
     {
         let kind = entry.key.kind;
@@ -181,13 +181,13 @@ pub(crate) fn writes_under(
     new: &Types,
 ) -> Result<Vec<Write>, RetypeFault>
     ensures lawful { (m : History) → IsMachine (types_view old.now) m → store.old ≡ view m
-        → IfOk result (λ v. if_lawful (types_view old.now) m (types_view new.now) ≡ Ok (types_view new.now)) }
+        → IfOk result (λ v. if_compatible (types_view old.now) m (types_view new.now) ≡ Ok (types_view new.now)) }
     ensures writes { (m : History) → IsMachine (types_view old.now) m → store.old ≡ view m
         → IfOk result (λ v. map write_of v.items ≡ retyping_writes (types_view old.now) (types_view new.now) m) }
     ensures writable { IfOk result (λ v. AreWritable store.old.current (map write_of v.items)) }
     ensures refused { (m : History) → IsMachine (types_view old.now) m → store.old ≡ view m
-        → IfErr result (λ e. IfSome (retype_refusal e) (λ why. if_lawful (types_view old.now) m (types_view new.now) ≡ Err why)) }
-    ensures told { IfErr result (λ e. told_of_file e ≡ None) }
+        → IfErr result (λ e. IfSome (retype_refusal e) (λ why. if_compatible (types_view old.now) m (types_view new.now) ≡ Err why)) }
+    ensures reported { IfErr result (λ e. reported_of_file e ≡ None) }
     ensures readable { AreTexts (types_view old.now) (objects_in store.old) → result ≢ Err (RetypeFault.Failed Fault.Unreadable) }
     ensures same { store.new ≡ store.old }
 {
@@ -221,7 +221,7 @@ fn file_fault(fault: TypesFault) -> RetypeFault
 fn types_in(alloc: Global, file: &Value) -> Result<Types, RetypeFault>
     ensures types { IfOk result (λ t. declared_types (value.view file.now) ≡ Ok (types_view t)) }
     ensures refused { (served : List ServedShape) (m : History) → IfErr result (λ e. IfSome (retype_refusal e) (λ why. retyping served m (value.view file.now) ≡ Err why)) }
-    ensures told { IfErr result (λ e. IfSome (told_of_file e) (IsFileFault (value.view file.now))) }
+    ensures reported { IfErr result (λ e. IfSome (reported_of_file e) (IsFileFault (value.view file.now))) }
     ensures readable { result ≢ Err (RetypeFault.Failed Fault.Unreadable) }
 {
     match Types::read(alloc, file) {
@@ -230,12 +230,12 @@ fn types_in(alloc: Global, file: &Value) -> Result<Types, RetypeFault>
     }
 }
 
-/// The types of a types file, of whose objects nothing is remembered.
+/// The types of a types file, of whose objects nothing is cached.
 pub(crate) fn catalog_in(alloc: Global, file: &Value) -> Result<Catalog, RetypeFault>
     ensures types { IfOk result (λ c. declared_types (value.view file.now) ≡ Ok c) }
     ensures shaped { IfOk result (λ c. All (λ t. IsObjectShape t.shape) c) }
     ensures refused { (served : List ServedShape) (m : History) → IfErr result (λ e. IfSome (retype_refusal e) (λ why. retyping served m (value.view file.now) ≡ Err why)) }
-    ensures told { IfErr result (λ e. IfSome (told_of_file e) (IsFileFault (value.view file.now))) }
+    ensures reported { IfErr result (λ e. IfSome (reported_of_file e) (IsFileFault (value.view file.now))) }
     ensures readable { result ≢ Err (RetypeFault.Failed Fault.Unreadable) }
 {
     let types = types_in(alloc, file)?;

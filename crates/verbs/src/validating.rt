@@ -12,35 +12,35 @@ ghost use Rattle.api_types.specs.Served as types;
 ghost use Rattle.schema.specs.Shape.{Shape};
 ghost use Rattle.api_types.specs.TypesFile.{ServedShape};
 ghost use Rattle.typed.specs.Fitting.{IsContent};
-ghost use Rattle.objects.specs.Placed.{IsPlacedState};
+ghost use Rattle.objects.specs.WellTyped.{IsWellTypedState};
 ghost use Rattle.objects.specs.Views.{state_of};
 ghost use Rattle.history.specs.History.{last_revision};
 ghost use Rattle.history.specs.Read.{key_of};
 ghost use Rattle.api_request.specs.Json.{IsJson};
-ghost use Rattle.verbs.specs.Live.{IsLive, IsSaid, object_in};
-ghost use Rattle.verbs.specs.Machine.{state_said};
+ghost use Rattle.verbs.specs.ExistingViews.{IsWellDecoded, IsDecoded, object_in};
+ghost use Rattle.verbs.specs.Machine.{decoded_state};
 ghost use Rattle.api_validation.specs.Naming.{metadata_object};
-ghost use Rattle.verbs.specs.Planner.{IsPlanner, asked_of, type_of};
-ghost use Rattle.verbs.specs.Remembered.{IsSaidBy};
-ghost use Rattle.api_request.specs.Seen.{Gives, plan_of};
-ghost use Rattle.api_validation.specs.Seen.{expected_of};
-ghost use Rattle.verbs.specs.Seen.{creation_seen, intent_seen, object_of};
+ghost use Rattle.verbs.specs.PlannerViews.{IsSoundPlanner, call_of_entry, type_of};
+ghost use Rattle.verbs.specs.CachedStateViews.{IsDecodedFrom};
+ghost use Rattle.api_request.specs.Views.{Returns, plan_of};
+ghost use Rattle.api_validation.specs.Views.{expected_of};
+ghost use Rattle.verbs.specs.Views.{creation_seen, intent_seen, object_of};
 ghost use Rattle.api_validation.specs.Size.{count_if_there};
-ghost use Rattle.verbs.specs.Step.{applied_over, apply_validated, as_it_stands, at_path, body_of, created_as, creation_validated, delete_validated, deleted, get_validated, intent_of, store_state, store_text, store_unless_same, update_validated, updated_by, version_come};
+ghost use Rattle.verbs.specs.Step.{applied_over, apply_plan, plan_without_change, at_path, body_of, created_as, creation_validated, delete_plan, deleted, get_plan, intent_of, plan_put, plan_put_text, plan_put_unless_same, update_plan, updated_by, version_reached};
 ghost use Rattle.api_request.specs.Validated.{and_then};
-ghost use Rattle.verbs.specs.WritePlans.{RemembersRight, written_plan};
+ghost use Rattle.verbs.specs.WritePlanViews.{CachesCoherently, written_plan};
 
 use crate::answering::{body_of, shown};
+use crate::cached::{WritePlan, cache_state};
+use crate::existing::Existing;
 use crate::listing::too_large;
-use crate::live::Live;
 use crate::planner::Planner;
-use crate::remembered::{WritePlan, remember};
-use crate::storing::check_version;
+use crate::preconditions::check_version;
 use api_request::{Answer, CREATED, CallError, Change, Method, OK, Plan};
 use api_types::Served;
 use api_validation::{
-    Expected, name_in, read_config, read_parameters, require_name, validate, validate_marks_by,
-    validate_names, validate_options, validate_size,
+    Expected, name_in, read_config, read_parameters, require_name, validate,
+    validate_labels_and_annotations_by, validate_names, validate_options, validate_size,
 };
 use history::{Key, Object};
 use ownership::{Outcome, Owned, Subresource, update, written_over};
@@ -97,7 +97,7 @@ impl<'a> Planner<'a> {
         body: &'a Value,
     ) -> Result<Intent<'a>, CallError>
         requires { IsJson (view body.now) }
-        ensures { Gives intent_seen result (intent_of (expected_of expected.entry) asked (asked_of self.entry).query (view body.now)) }
+        ensures { Returns intent_seen result (intent_of (expected_of expected.entry) asked (call_of_entry self.entry).query (view body.now)) }
     {
         let version = validate(self.alloc, body, expected)?;
         let content = read_config(self.alloc, expected.served, body)?;
@@ -114,7 +114,7 @@ impl<'a> Planner<'a> {
 
     /// The plan that stores the object of this text, which has so many labels. Checks, in order: number of labels, size, revisions
     /// left.
-    fn store_text(
+    fn plan_put_text(
         self,
         key: Key,
         status: u16,
@@ -123,7 +123,7 @@ impl<'a> Planner<'a> {
     ) -> Result<Plan, CallError>
         requires numbered { self.current ≤ last_revision }
         ensures plan { (object : Data) → string_bytes text ≡ compact_text object → labels ≡ count_if_there (metadata_object (codes "labels") object)
-            → Gives plan_of result (store_text object self.entry.current (key_of key) status) }
+            → Returns plan_of result (plan_put_text object self.entry.current (key_of key) status) }
         ensures text { IfOk result (λ p. string_bytes p.answer.body ≡ string_bytes text) }
         ensures left { OnOk result (self.entry.current < last_revision) }
     {
@@ -145,114 +145,124 @@ impl<'a> Planner<'a> {
     }
 
     /// The plan that stores a state, with the next revision.
-    fn store_state(self, key: Key, status: u16, owned: &Owned) -> Result<Plan, CallError>
-        requires planner { IsPlanner self }
-        requires placed { IsPlacedState (type_of self).shape (state_of owned.now) }
-        ensures plan { Gives plan_of result (store_state (type_of self.entry) self.entry.current (key_of key) status (state_of owned.now)) }
-        ensures says { IfOk result (λ p. IsSaidBy (type_of self.entry) (string_bytes p.answer.body) (state_of owned.now)) }
+    fn plan_put(self, key: Key, status: u16, owned: &Owned) -> Result<Plan, CallError>
+        requires planner { IsSoundPlanner self }
+        requires well_typed { IsWellTypedState (type_of self).shape (state_of owned.now) }
+        ensures plan { Returns plan_of result (plan_put (type_of self.entry) self.entry.current (key_of key) status (state_of owned.now)) }
+        ensures says { IfOk result (λ p. IsDecodedFrom (type_of self.entry) (string_bytes p.answer.body) (state_of owned.now)) }
     {
         let (text, labels) = self.printed(&key, self.current + 1, owned)?;
-        self.store_text(key, status, text, labels)
+        self.plan_put_text(key, status, text, labels)
     }
 
-    /// The plan that stores a state, and the state under the text that is stored, which is remembered.
-    fn store(self, key: Key, status: u16, owned: Owned) -> Result<WritePlan, CallError>
-        requires planner { IsPlanner self }
-        requires placed { IsPlacedState (type_of self).shape (state_of owned) }
-        ensures plan { Gives written_plan result (store_state (type_of self.entry) self.entry.current (key_of key) status (state_of owned)) }
-        ensures right { IfOk result (RemembersRight (type_of self.entry)) }
+    /// The plan that stores a state, and the state under the text that is stored, which is cached.
+    fn plan_put_cached(self, key: Key, status: u16, owned: Owned) -> Result<WritePlan, CallError>
+        requires planner { IsSoundPlanner self }
+        requires well_typed { IsWellTypedState (type_of self).shape (state_of owned) }
+        ensures plan { Returns written_plan result (plan_put (type_of self.entry) self.entry.current (key_of key) status (state_of owned)) }
+        ensures coherent { IfOk result (CachesCoherently (type_of self.entry)) }
     {
-        let plan = self.store_state(key, status, &owned)?;
-        let remembered = remember(&plan.answer.body, owned);
-        Ok(WritePlan { plan, remembered })
+        let plan = self.plan_put(key, status, &owned)?;
+        let cached = cache_state(&plan.answer.body, owned);
+        Ok(WritePlan { plan, cached })
     }
 
     /// The plan of a creation, or of a change of what stands. Checks, in order: whether anything changes of the state before (where
     /// nothing does, what stands is answered), number of labels and size, revisions left.
-    fn store_unless_same(self, key: Key, live: &Live, owned: Owned) -> Result<WritePlan, CallError>
-        requires planner { IsPlanner self }
-        requires placed { IsPlacedState (type_of self).shape (state_of owned) }
-        requires said { IsSaid (type_of self) live.now }
-        ensures plan { Gives written_plan result (store_unless_same (type_of self.entry) self.entry.current (key_of key) (object_in live.now) (state_of owned)) }
-        ensures right { IfOk result (RemembersRight (type_of self.entry)) }
+    fn plan_put_unless_same(
+        self,
+        key: Key,
+        existing: &Existing,
+        owned: Owned,
+    ) -> Result<WritePlan, CallError>
+        requires planner { IsSoundPlanner self }
+        requires well_typed { IsWellTypedState (type_of self).shape (state_of owned) }
+        requires said { IsDecoded (type_of self) existing.now }
+        ensures plan { Returns written_plan result (plan_put_unless_same (type_of self.entry) self.entry.current (key_of key) (object_in existing.now) (state_of owned)) }
+        ensures coherent { IfOk result (CachesCoherently (type_of self.entry)) }
     {
-        match written_over(&owned, live.before()) {
-            Outcome::Created => self.store(key, CREATED, owned),
-            Outcome::Configured => self.store(key, OK, owned),
-            Outcome::Unchanged => match &live.object {
+        match written_over(&owned, existing.before()) {
+            Outcome::Created => self.plan_put_cached(key, CREATED, owned),
+            Outcome::Configured => self.plan_put_cached(key, OK, owned),
+            Outcome::Unchanged => match &existing.object {
                 Some(object) => Ok(unchanged(object)?),
                 None => unreachable!(),
             },
         }
     }
 
-    /// Checks, in order: whether the object of a status is there, version, conflicts, those of `store_unless_same`.
-    fn applied_over(self, key: Key, live: &Live, intent: Intent<'_>) -> Result<WritePlan, CallError>
-        requires planner { IsPlanner self }
+    /// Checks, in order: whether the object of a status is there, version, conflicts, those of `plan_put_unless_same`.
+    fn applied_over(
+        self,
+        key: Key,
+        existing: &Existing,
+        intent: Intent<'_>,
+    ) -> Result<WritePlan, CallError>
+        requires planner { IsSoundPlanner self }
         requires content { IsContent (type_of self).shape intent.content }
-        requires live { IsLive (type_of self) live.now }
-        ensures plan { Gives written_plan result (applied_over (type_of self.entry) self.entry.current (key_of key) (object_in live.now) (intent_seen intent.entry)) }
-        ensures right { IfOk result (RemembersRight (type_of self.entry)) }
+        requires existing { IsWellDecoded (type_of self) existing.now }
+        ensures plan { Returns written_plan result (applied_over (type_of self.entry) self.entry.current (key_of key) (object_in existing.now) (intent_seen intent.entry)) }
+        ensures coherent { IfOk result (CachesCoherently (type_of self.entry)) }
     {
-        self.check_there(intent.subresource, &key, live.object.as_ref())?;
-        check_version(self.alloc, intent.version, live.object.as_ref())?;
-        let owned = self.applied(&live.state, intent)?;
-        self.store_unless_same(key, live, owned)
+        self.check_object_of_status(intent.subresource, &key, existing.object.as_ref())?;
+        check_version(self.alloc, intent.version, existing.object.as_ref())?;
+        let owned = self.applied(&existing.state, intent)?;
+        self.plan_put_unless_same(key, existing, owned)
     }
 
     /// An apply over what stands. Checks, in order: that there is a body, those of `intent_of`, names with labels and annotations,
     /// those of `applied_over`.
-    pub(crate) fn validate_apply(
+    pub(crate) fn plan_apply(
         self,
         key: Key,
         subresource: Subresource,
-        live: &Live,
+        existing: &Existing,
     ) -> Result<WritePlan, CallError>
-        requires planner { IsPlanner self }
-        requires live { IsLive (type_of self) live.now }
-        ensures plan { let c = asked_of self.entry in
-            Gives written_plan result (and_then (body_of c.body) (apply_validated subresource (type_of self.entry) self.entry.current (object_in live.now) (key_of key) c.query)) }
-        ensures right { IfOk result (RemembersRight (type_of self.entry)) }
+        requires planner { IsSoundPlanner self }
+        requires existing { IsWellDecoded (type_of self) existing.now }
+        ensures plan { let c = call_of_entry self.entry in
+            Returns written_plan result (and_then (body_of c.body) (apply_plan subresource (type_of self.entry) self.entry.current (object_in existing.now) (key_of key) c.query)) }
+        ensures coherent { IfOk result (CachesCoherently (type_of self.entry)) }
     {
         let body = body_of(self.alloc, self.call)?;
         let expected = at_path(self.served, &key, Method::Patch, subresource);
         let intent = self.intent_of(expected, Asked::Apply, body)?;
         validate_names(self.alloc, intent.subresource, &key, intent.body)?;
-        self.applied_over(key, live, intent)
+        self.applied_over(key, existing, intent)
     }
 
     /// An update of an object that is there. Checks, in order: that there is a body, those of `intent_of`, labels and annotations,
-    /// whether the object is there, version, those of `store_unless_same`.
-    pub(crate) fn validate_update(
+    /// whether the object is there, version, those of `plan_put_unless_same`.
+    pub(crate) fn plan_update(
         self,
         key: Key,
         subresource: Subresource,
-        live: &Live,
+        existing: &Existing,
     ) -> Result<WritePlan, CallError>
-        requires planner { IsPlanner self }
-        requires live { IsLive (type_of self) live.now }
-        ensures plan { let c = asked_of self.entry in
-            Gives written_plan result (and_then (body_of c.body) (update_validated subresource (type_of self.entry) self.entry.current (object_in live.now) (key_of key) c.query)) }
-        ensures right { IfOk result (RemembersRight (type_of self.entry)) }
+        requires planner { IsSoundPlanner self }
+        requires existing { IsWellDecoded (type_of self) existing.now }
+        ensures plan { let c = call_of_entry self.entry in
+            Returns written_plan result (and_then (body_of c.body) (update_plan subresource (type_of self.entry) self.entry.current (object_in existing.now) (key_of key) c.query)) }
+        ensures coherent { IfOk result (CachesCoherently (type_of self.entry)) }
     {
         let body = body_of(self.alloc, self.call)?;
         let expected = at_path(self.served, &key, Method::Put, subresource);
         let intent = self.intent_of(expected, Asked::Put, body)?;
-        validate_marks_by(self.alloc, intent.subresource, intent.body)?;
-        let Some(object) = &live.object else {
+        validate_labels_and_annotations_by(self.alloc, intent.subresource, intent.body)?;
+        let Some(object) = &existing.object else {
             return Err(self.not_found(&key));
         };
         check_version(self.alloc, intent.version, Some(object))?;
-        let owned = updated_by(self.alloc, intent, &live.state)?;
-        self.store_unless_same(key, live, owned)
+        let owned = updated_by(self.alloc, intent, &existing.state)?;
+        self.plan_put_unless_same(key, existing, owned)
     }
 
     /// The object that a creation is of, and what it intends: the call's body names the object. Checks, in order: that there is a
-    /// body, those of `intent_of`, that there is a name. `validate_created` goes on.
+    /// body, those of `intent_of`, that there is a name. `plan_created` goes on.
     pub(crate) fn validate_creation(self, namespace: &str) -> Result<Creation<'a>, CallError>
-        requires planner { IsPlanner self }
-        ensures validated { let c = asked_of self.entry in
-            Gives creation_seen result (and_then (body_of c.body) (creation_validated (type_of self.entry) c.target.kind namespace.now c.query)) }
+        requires planner { IsSoundPlanner self }
+        ensures validated { let c = call_of_entry self.entry in
+            Returns creation_seen result (and_then (body_of c.body) (creation_validated (type_of self.entry) c.target.kind namespace.now c.query)) }
         ensures content { IfOk result (λ c. IsContent (type_of self.entry).shape c.intent.content) }
     {
         let body = body_of(self.alloc, self.call)?;
@@ -271,33 +281,33 @@ impl<'a> Planner<'a> {
 
     /// A creation, of an object that isn't there. Checks, in order: names with labels and annotations, that no object is there,
     /// number of labels and size, revisions left.
-    pub(crate) fn validate_created(
+    pub(crate) fn plan_created(
         self,
         key: Key,
-        live: Option<&Object>,
+        existing: Option<&Object>,
         intent: Intent<'_>,
     ) -> Result<WritePlan, CallError>
-        requires planner { IsPlanner self }
+        requires planner { IsSoundPlanner self }
         requires content { IsContent (type_of self).shape intent.content }
-        ensures plan { Gives written_plan result (created_as (type_of self.entry) self.entry.current (option_map (λ o. object_of o.now) live.entry) (key_of key) (intent_seen intent.entry)) }
-        ensures right { IfOk result (RemembersRight (type_of self.entry)) }
+        ensures plan { Returns written_plan result (created_as (type_of self.entry) self.entry.current (option_map (λ o. object_of o.now) existing.entry) (key_of key) (intent_seen intent.entry)) }
+        ensures coherent { IfOk result (CachesCoherently (type_of self.entry)) }
     {
         validate_names(self.alloc, intent.subresource, &key, intent.body)?;
-        if live.is_some() {
+        if existing.is_some() {
             return Err(self.already_exists(&key));
         }
         let owned = updated_by(self.alloc, intent, &Owned::empty(self.alloc))?;
-        self.store(key, CREATED, owned)
+        self.plan_put_cached(key, CREATED, owned)
     }
 
     /// The object's last state, with the deletion's revision.
-    fn deleted(self, key: Key, live: &Object, state: &Owned) -> Result<WritePlan, AllocError>
+    fn deleted(self, key: Key, existing: &Object, state: &Owned) -> Result<WritePlan, AllocError>
         requires numbered { self.current < last_revision }
         requires shaped { IsObjectShape (type_of self).shape }
         requires content { IsContent (type_of self).shape state.now.tree }
-        requires said { state_of state.now ≡ state_said (type_of self).shape (object_of live.now).body }
-        ensures plan { IfOk result (λ w. written_plan w ≡ deleted (type_of self.entry) self.entry.current (key_of key) (object_of live.now)) }
-        ensures right { (t : ServedShape) → IfOk result (RemembersRight t) }
+        requires said { state_of state.now ≡ decoded_state (type_of self).shape (object_of existing.now).body }
+        ensures plan { IfOk result (λ w. written_plan w ≡ deleted (type_of self.entry) self.entry.current (key_of key) (object_of existing.now)) }
+        ensures coherent { (t : ServedShape) → IfOk result (CachesCoherently t) }
     {
         let revision = self.current + 1;
         let (body, _) = self.printed(&key, revision, state)?;
@@ -311,32 +321,32 @@ impl<'a> Planner<'a> {
                 answer: shown(body, None),
                 change: Some(change),
             },
-            remembered: None,
+            cached: None,
         })
     }
 
     /// A deletion. Checks, in order: the body's options, parameters, whether the object is there, version, revisions left. Nothing is
     /// stored, so no size is validated.
-    pub(crate) fn validate_delete(self, key: Key, live: &Live) -> Result<WritePlan, CallError>
-        requires planner { IsPlanner self }
-        requires live { IsLive (type_of self) live.now }
-        ensures plan { let c = asked_of self.entry in
-            Gives written_plan result (delete_validated (type_of self.entry) self.entry.current (object_in live.now) (key_of key) c.query c.body) }
-        ensures right { IfOk result (RemembersRight (type_of self.entry)) }
+    pub(crate) fn plan_delete(self, key: Key, existing: &Existing) -> Result<WritePlan, CallError>
+        requires planner { IsSoundPlanner self }
+        requires existing { IsWellDecoded (type_of self) existing.now }
+        ensures plan { let c = call_of_entry self.entry in
+            Returns written_plan result (delete_plan (type_of self.entry) self.entry.current (object_in existing.now) (key_of key) c.query c.body) }
+        ensures coherent { IfOk result (CachesCoherently (type_of self.entry)) }
     {
         let version = validate_options(self.alloc, self.call.body.as_ref())?;
         read_parameters(self.alloc, Asked::Delete, &self.call.query)?;
-        let Some(object) = &live.object else {
+        let Some(object) = &existing.object else {
             return Err(self.not_found(&key));
         };
         check_version(self.alloc, version, Some(object))?;
         self.check_revisions()?;
-        Ok(self.deleted(key, object, &live.state)?)
+        Ok(self.deleted(key, object, &existing.state)?)
     }
 
     /// The version that is asked for has come.
-    fn check_come(self, version: Option<u64>) -> Result<(), CallError>
-        ensures { Gives (λ u. u) result (version_come version self.entry.current) }
+    fn check_version_reached(self, version: Option<u64>) -> Result<(), CallError>
+        ensures { Returns (λ u. u) result (version_reached version self.entry.current) }
     {
         match version {
             None => Ok(()),
@@ -346,14 +356,14 @@ impl<'a> Planner<'a> {
     }
 
     /// A get: the object as it stands. Checks, in order: parameters, whether the object is there, version.
-    pub(crate) fn validate_get(self, key: &Key, object: Option<Object>) -> Result<Plan, CallError>
-        ensures { Gives plan_of result (get_validated (type_of self.entry) self.entry.current (option_map object_of object) (key_of key.now) (asked_of self.entry).query) }
+    pub(crate) fn plan_get(self, key: &Key, object: Option<Object>) -> Result<Plan, CallError>
+        ensures { Returns plan_of result (get_plan (type_of self.entry) self.entry.current (option_map object_of object) (key_of key.now) (call_of_entry self.entry).query) }
     {
         let params = read_parameters(self.alloc, Asked::Get, &self.call.query)?;
         let Some(object) = object else {
             return Err(self.not_found(key));
         };
-        self.check_come(params.version)?;
+        self.check_version_reached(params.version)?;
         Ok(Plan {
             answer: shown(object.body, None),
             change: None,
@@ -361,25 +371,25 @@ impl<'a> Planner<'a> {
     }
 }
 
-/// The plan that answers what stands and changes nothing. The text is copied, since what stands is remembered.
-fn unchanged(live: &Object) -> Result<WritePlan, AllocError>
-    ensures plan { IfOk result (λ w. written_plan w ≡ as_it_stands (object_of live.now)) }
-    ensures right { (t : ServedShape) → IfOk result (RemembersRight t) }
+/// The plan that answers what stands and changes nothing. The text is copied, since what stands is cached.
+fn unchanged(existing: &Object) -> Result<WritePlan, AllocError>
+    ensures plan { IfOk result (λ w. written_plan w ≡ plan_without_change (object_of existing.now)) }
+    ensures coherent { (t : ServedShape) → IfOk result (CachesCoherently t) }
 {
-    let body = live.body.clone()?;
+    let body = existing.body.clone()?;
     Ok(WritePlan {
         plan: Plan {
             answer: shown(body, None),
             change: None,
         },
-        remembered: None,
+        cached: None,
     })
 }
 
 /// What stands after the write, over what stood: its manager owns what it changed.
-fn updated_by(alloc: Global, intent: Intent<'_>, live: &Owned) -> Result<Owned, AllocError>
-    ensures state { IfOk result (λ o. state_of o ≡ updated_by (intent_seen intent.entry) (state_of live.now)) }
-    ensures placed { (s : Shape) → IsContent s intent.entry.content → IsPlacedState s (state_of live.now) → IfOk result (λ o. IsPlacedState s (state_of o)) }
+fn updated_by(alloc: Global, intent: Intent<'_>, existing: &Owned) -> Result<Owned, AllocError>
+    ensures state { IfOk result (λ o. state_of o ≡ updated_by (intent_seen intent.entry) (state_of existing.now)) }
+    ensures well_typed { (s : Shape) → IsContent s intent.entry.content → IsWellTypedState s (state_of existing.now) → IfOk result (λ o. IsWellTypedState s (state_of o)) }
 {
     let Intent {
         content,
@@ -387,5 +397,5 @@ fn updated_by(alloc: Global, intent: Intent<'_>, live: &Owned) -> Result<Owned, 
         subresource,
         ..
     } = intent;
-    update(alloc, live, manager.as_str(), subresource, content)
+    update(alloc, existing, manager.as_str(), subresource, content)
 }

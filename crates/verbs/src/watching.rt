@@ -3,7 +3,7 @@
 
 ghost use Rattle.std.specs.Prelude.{◌≡◌, ◌≢◌, Err, IfOk, None, Ok, OnErr, false};
 ghost use Rattle.api_types.specs.Served.{types_view};
-ghost use Rattle.watchline.specs.Views.{marking_of};
+ghost use Rattle.watchline.specs.Views.{bookmark_turn};
 ghost use Rattle.watchline.specs.Watches.{is_bookmark_due};
 ghost use Rattle.verbs.specs.Watching.{bookmarked_in};
 
@@ -19,7 +19,7 @@ pub(crate) fn bookmarked(
     types: &Types,
     cursor: &mut WatchCursor,
 ) -> Result<Option<String>, Fault>
-    ensures bookmarked { IfOk result (λ o. marking_of o cursor.new ≡ bookmarked_in (types_view types.now) cursor.old) }
+    ensures bookmarked { IfOk result (λ o. bookmark_turn o cursor.new ≡ bookmarked_in (types_view types.now) cursor.old) }
     ensures err { OnErr result (cursor.new ≡ cursor.old) }
     ensures needs { is_bookmark_due cursor.old ≡ false → result ≡ Ok None }
     ensures readable { result ≢ Err Fault.Unreadable }

@@ -5,9 +5,9 @@ ghost use Rattle.std.specs.Prelude.{◌≡◌, ◌≢◌, Err, OnErr, OnOk, map}
 ghost use Rattle.history.specs.Read.{write_of};
 ghost use Rattle.history.specs.View.{written_in};
 ghost use Rattle.history.specs.Writes.{written_all_in};
-ghost use Rattle.verbs.specs.Gathered.{AreWritable};
+ghost use Rattle.verbs.specs.GatheredViews.{AreWritable};
 ghost use Rattle.verbs.specs.Machine.{ComesAfter};
-ghost use Rattle.api_request.specs.Seen.{change_of};
+ghost use Rattle.api_request.specs.Views.{change_of};
 ghost use Rattle.api_request.specs.Stored.{Stores};
 
 use crate::fault::Fault;

@@ -17,13 +17,13 @@ use Rattle.history.specs.declared.change.Change.{Change as TheChange}
 use Rattle.history.specs.Read.{change_of}
 use Rattle.lists.specs.Labels.{labels_of, selection_of}
 use Rattle.watchline.specs.declared.seen.Seen.{Seen as TheSeen}
-use Rattle.watchline.specs.Views.{change_seen}
+use Rattle.watchline.specs.Views.{seen_change_of}
 use Rattle.watchline.proofs.Putting.{enough}
-use Rattle.watchline.specs.Batches.{AreBetween, IsLow, changes_past, if_labelled, last_revision, seen_each, seen_labelled, to_read}
+use Rattle.watchline.specs.BatchViews.{AreBetween, IsNotBelow, changes_past, if_labelled, revision_of_last, seen_each, seen_labelled, to_read}
 
 -- ---- the last revision
 
-pub last_slot : (xs : List TheChange) → option_map (λ c. c.revision) (slice_get xs (length xs - 1)) ≡ last_revision (map change_of xs)
+pub last_slot : (xs : List TheChange) → option_map (λ c. c.revision) (slice_get xs (length xs - 1)) ≡ revision_of_last (map change_of xs)
 last_slot [] = refl
 last_slot (x ∷ []) = refl
 last_slot (x ∷ y ∷ ys) =
@@ -32,7 +32,7 @@ last_slot (x ∷ y ∷ ys) =
 
 -- ---- rising changes, cut behind so many
 
-last_above : (lo top n r : ℕ) (cs : List Change) → IsRising lo cs top → last_revision (take n cs) ≡ Some r → lo < r
+last_above : (lo top n r : ℕ) (cs : List Change) → IsRising lo cs top → revision_of_last (take n cs) ≡ Some r → lo < r
 last_above lo top zero r cs rise is = absurd cc
 last_above lo top (suc n) r [] rise is = absurd cc
 last_above lo top (suc zero) r (c ∷ cs) rise is = let same : c.revision ≡ r = cc in subst (λ q. lo < q) same rise.0
@@ -43,7 +43,7 @@ last_above lo top (suc (suc n)) r (c ∷ d ∷ cs) rise is =
     omega arith
 
 -- what comes after the last of them is what was not taken
-pub later_last : (lo top n r : ℕ) (cs : List Change) → IsRising lo cs top → last_revision (take n cs) ≡ Some r → later r cs ≡ drop n cs
+pub later_last : (lo top n r : ℕ) (cs : List Change) → IsRising lo cs top → revision_of_last (take n cs) ≡ Some r → later r cs ≡ drop n cs
 later_last lo top zero r cs rise is = absurd cc
 later_last lo top (suc n) r [] rise is = absurd cc
 later_last lo top (suc zero) r (c ∷ cs) rise is =
@@ -65,11 +65,11 @@ taken_between low lo top (suc n) (c ∷ cs) h rise =
     let d : low ≤ c.revision = omega arith in
     ((b, rising_ends c.revision top cs rise.1), taken_between low c.revision top n cs d rise.1)
 
-not_none : (r : ℕ) (cs : List Change) → last_revision cs ≡ Some r → 0 < length cs
+not_none : (r : ℕ) (cs : List Change) → revision_of_last cs ≡ Some r → 0 < length cs
 not_none r [] h = absurd cc
 not_none r (c ∷ cs) h = omega arith
 
-none_last : (cs : List Change) → last_revision cs ≡ None → cs ≡ []
+none_last : (cs : List Change) → revision_of_last cs ≡ None → cs ≡ []
 none_last [] h = refl
 none_last (c ∷ []) h = absurd cc
 none_last (c ∷ d ∷ cs) h = let none : (d ∷ cs) ≡ [] = none_last (d ∷ cs) h in absurd cc
@@ -89,7 +89,7 @@ all_later r (c ∷ cs) = go (nat_lt r c.revision) refl (all_later r cs)
     go true is rest = (ltb-true r c.revision is, rest)
     go false is rest = rest
 
-last_past : (after n r : ℕ) (cs : List Change) → AllByRecursion (λ c. after < c.revision) cs → last_revision (take n cs) ≡ Some r → after < r
+last_past : (after n r : ℕ) (cs : List Change) → AllByRecursion (λ c. after < c.revision) cs → revision_of_last (take n cs) ≡ Some r → after < r
 last_past after zero r cs above is = absurd cc
 last_past after (suc n) r [] above is = absurd cc
 last_past after (suc zero) r (c ∷ cs) above is = let same : c.revision ≡ r = cc in subst (λ q. after < q) same above.0
@@ -114,9 +114,9 @@ module _ (kind : ℕ) (namespace : Option (List ℕ)) (v : View) (sound : IsView
   pub ends_lower : to_read kind namespace v None < to_read kind namespace v (Some after)
   ends_lower = omega arith
 
-  module _ (r : ℕ) (last : last_revision rows ≡ Some r) where
-    last_taken : last_revision (take max (picked kind namespace (later after v.changes))) ≡ Some r
-    last_taken = ap last_revision (sym is) ∙ last
+  module _ (r : ℕ) (last : revision_of_last rows ≡ Some r) where
+    last_taken : revision_of_last (take max (picked kind namespace (later after v.changes))) ≡ Some r
+    last_taken = ap revision_of_last (sym is) ∙ last
 
     past : after < r
     past = last_past after max r (picked kind namespace (later after v.changes)) above last_taken
@@ -140,30 +140,30 @@ module _ (kind : ℕ) (namespace : Option (List ℕ)) (v : View) (sound : IsView
     goes_low : v.compacted ≤ r
     goes_low = let h : after < r = past in omega arith
 
-  module _ (some : 0 < max) (enough : max ≤ length rows) (next : Option ℕ) (next_is : next ≡ last_revision rows) where
-    nothing_here : last_revision rows ≡ None → Unit {0} → max ≤ 0
+  module _ (some : 0 < max) (enough : max ≤ length rows) (next : Option ℕ) (next_is : next ≡ revision_of_last rows) where
+    nothing_here : revision_of_last rows ≡ None → Unit {0} → max ≤ 0
     nothing_here h u = let none : length rows ≡ 0 = ap length (none_last rows h) in omega arith
 
     pub leads_on : changes_past kind namespace v (Some after) ≡ rows ++ changes_past kind namespace v next
-    leads_on = go (last_revision rows) refl
+    leads_on = go (revision_of_last rows) refl
       where
-        go : (o : Option ℕ) → last_revision rows ≡ o → changes_past kind namespace v (Some after) ≡ rows ++ changes_past kind namespace v next
+        go : (o : Option ℕ) → revision_of_last rows ≡ o → changes_past kind namespace v (Some after) ≡ rows ++ changes_past kind namespace v next
         go None h = absurd (let no : max ≤ 0 = nothing_here h tt in omega arith)
         go (Some r) h = goes_on r h ∙ ap (λ o. rows ++ changes_past kind namespace v o) (sym (next_is ∙ h))
 
     pub leads_lower : to_read kind namespace v next < to_read kind namespace v (Some after)
-    leads_lower = go (last_revision rows) refl
+    leads_lower = go (revision_of_last rows) refl
       where
-        go : (o : Option ℕ) → last_revision rows ≡ o → to_read kind namespace v next < to_read kind namespace v (Some after)
+        go : (o : Option ℕ) → revision_of_last rows ≡ o → to_read kind namespace v next < to_read kind namespace v (Some after)
         go None h = absurd (let no : max ≤ 0 = nothing_here h tt in omega arith)
         go (Some r) h = subst (λ o. to_read kind namespace v o < to_read kind namespace v (Some after)) (sym (next_is ∙ h)) (goes_lower r h)
 
-    pub leads_low : IsLow v.compacted next
-    leads_low = go (last_revision rows) refl
+    pub leads_low : IsNotBelow v.compacted next
+    leads_low = go (revision_of_last rows) refl
       where
-        go : (o : Option ℕ) → last_revision rows ≡ o → IsLow v.compacted next
-        go None h = subst (IsLow v.compacted) (sym (next_is ∙ h)) tt
-        go (Some r) h = subst (IsLow v.compacted) (sym (next_is ∙ h)) (goes_low r h)
+        go : (o : Option ℕ) → revision_of_last rows ≡ o → IsNotBelow v.compacted next
+        go None h = subst (IsNotBelow v.compacted) (sym (next_is ∙ h)) tt
+        go (Some r) h = subst (IsNotBelow v.compacted) (sym (next_is ∙ h)) (goes_low r h)
 
 -- ---- what is seen of them
 
@@ -231,7 +231,7 @@ each_more requirements v whole found new cs rest c so_far reads is =
 
 -- ---- where a watch then stands
 
-pub reached_last : (from : ℕ) (xs : List TheSeen) → unwrap_or (option_map (λ s. s.object.revision) (slice_get xs (length xs - 1))) from ≡ reached from (map change_seen xs)
+pub reached_last : (from : ℕ) (xs : List TheSeen) → unwrap_or (option_map (λ s. s.object.revision) (slice_get xs (length xs - 1))) from ≡ reached from (map seen_change_of xs)
 reached_last from [] = refl
 reached_last from (x ∷ []) = refl
 reached_last from (x ∷ y ∷ ys) =

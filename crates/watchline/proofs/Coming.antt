@@ -1,4 +1,4 @@
--- What a watch has still to tell: objects by rows, then changes, and its turn.
+-- What a watch has still to send: objects by rows, then changes, and its turn.
 use Rattle.std.proofs.Common.{◌≡◌, ℕ, zero, suc, ◌-◌, ◌<◌, ◌≤◌, min, Bool, true, false, cond, List, [], ◌∷◌, ◌++◌, length, take, map, refl, sym, ap, ap₂, ◌∙◌, Option, Some, None, option_map, string_bytes, arith, leb-true, leb-false, lt-ltb, le-ltb, ltb-false, eqb-true, true≢false}
 use Rattle.std.specs.Prelude.{nat_le, nat_lt, ◌==◌}
 use Rattle.std.specs.Option.{unwrap_or}
@@ -20,11 +20,11 @@ use Rattle.lists.specs.Labels.{labels_of, selection_of}
 use Rattle.lists.specs.Rows.{Start, matching, place_of}
 use Rattle.lists.specs.Views.{start_of}
 use Rattle.watchline.specs.declared.cursor.Scope.{Scope}
-use Rattle.watchline.specs.declared.opening.Initial.TheVariants.{NoObjects, Objects as SomeObjects}
+use Rattle.watchline.specs.declared.opening.InitialEvents.TheVariants.{NoneSelected, Objects as SomeObjects}
 use Rattle.watchline.specs.Lines.{added, error_line, line_of}
 use Rattle.watchline.specs.Opening.{initial_of}
-use Rattle.watchline.specs.Views.{left_at, objects_at}
-use Rattle.watchline.specs.Watches.{Cursor, Left, Source, Turn, changes_left, changes_told, coming, entries_left, expiring, from_history, from_view, key_at, left_behind, left_from, left_past, moved, objects_left, position_by, pumped, telling, wanted}
+use Rattle.watchline.specs.Views.{initial_left_of, objects_at}
+use Rattle.watchline.specs.Watches.{Cursor, InitialLeft, HistoryWindow, Turn, changes_left, changes_sent, coming, entries_left, expiring, from_history, from_view, key_at, left_behind, initial_left_from, left_past, moved, objects_left, position_by, pumped, sending, wanted}
 use Rattle.watchline.proofs.Putting.{lt-taken, room-taken, take-behind}
 
 abbrev pub Entries : Type 0
@@ -74,28 +74,28 @@ page_at v scope position revision max start page sound at is =
     (ap (state_in v) at ∙ state_min v position sound)
     )
 
-pub left_same : (left : Option TheStart) (next : Option Key) → option_map start_of left ≡ option_map place_of next → left_at left ≡ left_behind next
+pub left_same : (left : Option TheStart) (next : Option Key) → option_map start_of left ≡ option_map place_of next → initial_left_of left ≡ left_behind next
 left_same None None is = refl
 left_same None (Some k) is = absurd cc
 left_same (Some start) None is = absurd cc
-left_same (Some start) (Some k) is = ap left_from (ap (λ o. unwrap_or o None) is)
+left_same (Some start) (Some k) is = ap initial_left_from (ap (λ o. unwrap_or o None) is)
 
 -- ---- a turn
 
-same_turn : (w : Cursor) (a b : List (List ℕ)) (p q t u : ℕ) (l m : Left) → a ≡ b → p ≡ q → t ≡ u → l ≡ m
+same_turn : (w : Cursor) (a b : List (List ℕ)) (p q t u : ℕ) (l m : InitialLeft) → a ≡ b → p ≡ q → t ≡ u → l ≡ m
     → (let turn : Turn = record { lines = a; ended = false; next = moved w p t l } in turn) ≡ record { lines = b; ended = false; next = moved w q u m }
 same_turn w a b p q t u l m ab pq tu lm = rw (ab, pq, tu, lm) refl
 
-module _ (s : Source) (w : Cursor) (room : ℕ) (objects : Entries) (changes : List SeenChange) (objects_are : objects ≡ take room (objects_left s w))
+module _ (s : HistoryWindow) (w : Cursor) (room : ℕ) (objects : Entries) (changes : List SeenChange) (objects_are : objects ≡ take room (objects_left s w))
     (changes_are : changes ≡ take (room - length objects) (changes_left s w)) where
-  pub told_are : changes ≡ changes_told s room w
-  told_are = changes_are ∙ ap (λ n. take n (changes_left s w)) (ap (λ es. room - length es) objects_are ∙ room-taken room (objects_left s w))
+  pub sent_are : changes ≡ changes_sent s room w
+  sent_are = changes_are ∙ ap (λ n. take n (changes_left s w)) (ap (λ es. room - length es) objects_are ∙ room-taken room (objects_left s w))
 
   pub taken_are : map added objects ++ changes ≡ take room (coming s w)
   taken_are =
       ap₂ (λ xs ys. xs ++ ys)
       (ap (map added) objects_are ∙ sym (take-map added room (objects_left s w)))
-      (told_are ∙ ap (λ n. take (room - n) (changes_left s w)) (sym (length-map (objects_left s w) added)))
+      (sent_are ∙ ap (λ n. take (room - n) (changes_left s w)) (sym (length-map (objects_left s w) added)))
       ∙ sym (take-behind room (map added (objects_left s w)) (changes_left s w))
 
   module _ (lines : List (List ℕ)) (lines_are : lines ≡ map line_of (map added objects ++ changes)) where
@@ -105,30 +105,30 @@ module _ (s : Source) (w : Cursor) (room : ℕ) (objects : Entries) (changes : L
     has_room : nat_lt (length lines) room ≡ nat_lt (length (coming s w)) room
     has_room = ap (λ l. nat_lt (length l) room) all_lines ∙ ap (λ n. nat_lt n room) (length-map (take room (coming s w)) line_of) ∙ lt-taken room (coming s w)
 
-    pub turned : (position told : ℕ) (left next : Left) → position ≡ position_by (nat_lt (length lines) room) s.current (reached w.position changes) → told ≡ reached w.told changes → left ≡ next
-        → (let turn : Turn = record { lines = lines; ended = false; next = moved w position told left } in turn)
-        ≡ record { lines = map line_of (take room (coming s w)); ended = false; next = moved w (position_by (nat_lt (length (coming s w)) room) s.current (reached w.position (changes_told s room w))) (reached w.told (changes_told s room w)) next }
-    turned position told left next position_is told_is left_is =
-        same_turn w lines (map line_of (take room (coming s w))) position (position_by (nat_lt (length (coming s w)) room) s.current (reached w.position (changes_told s room w)))
-        told (reached w.told (changes_told s room w)) left next all_lines
-        (position_is ∙ ap₂ (λ b cs. position_by b s.current (reached w.position cs)) has_room told_are)
-        (told_is ∙ ap (reached w.told) told_are) left_is
+    pub turned : (position sent : ℕ) (left next : InitialLeft) → position ≡ position_by (nat_lt (length lines) room) s.current (reached w.position changes) → sent ≡ reached w.sent changes → left ≡ next
+        → (let turn : Turn = record { lines = lines; ended = false; next = moved w position sent left } in turn)
+        ≡ record { lines = map line_of (take room (coming s w)); ended = false; next = moved w (position_by (nat_lt (length (coming s w)) room) s.current (reached w.position (changes_sent s room w))) (reached w.sent (changes_sent s room w)) next }
+    turned position sent left next position_is sent_is left_is =
+        same_turn w lines (map line_of (take room (coming s w))) position (position_by (nat_lt (length (coming s w)) room) s.current (reached w.position (changes_sent s room w)))
+        sent (reached w.sent (changes_sent s room w)) left next all_lines
+        (position_is ∙ ap₂ (λ b cs. position_by b s.current (reached w.position cs)) has_room sent_are)
+        (sent_is ∙ ap (reached w.sent) sent_are) left_is
 
-pub past_some : (room : ℕ) (es : Entries) (left : Left) → (room ≡ 0 → ⊥) → left_past room es left ≡ left_behind (next_of room es)
+pub past_some : (room : ℕ) (es : Entries) (left : InitialLeft) → (room ≡ 0 → ⊥) → left_past room es left ≡ left_behind (next_of room es)
 past_some zero es left h = absurd (h refl)
 past_some (suc n) es left h = refl
 
--- missed changes end it, and else it tells
-pub expired_is : (s : Source) (w : Cursor) (room : ℕ) (lines : List (List ℕ)) (ended : Bool) → w.position < s.compacted → lines ≡ error_line w.position s.compacted ∷ [] → ended ≡ true
+-- missed changes end it, and else it sends
+pub expired_is : (s : HistoryWindow) (w : Cursor) (room : ℕ) (lines : List (List ℕ)) (ended : Bool) → w.position < s.compacted → lines ≡ error_line w.position s.compacted ∷ [] → ended ≡ true
     → (let turn : Turn = record { lines = lines; ended = ended; next = w } in turn) ≡ pumped s room w
-expired_is s w room lines ended below lines_are ended_is = rw (lines_are, ended_is) (sym (ap (λ b. cond b (expiring s w) (telling s room w)) (lt-ltb w.position s.compacted below)))
+expired_is s w room lines ended below lines_are ended_is = rw (lines_are, ended_is) (sym (ap (λ b. cond b (expiring s w) (sending s room w)) (lt-ltb w.position s.compacted below)))
 
-pub told_is : (s : Source) (w : Cursor) (room : ℕ) (turn : Turn) → s.compacted ≤ w.position → turn ≡ telling s room w → turn ≡ pumped s room w
-told_is s w room turn above is = is ∙ sym (ap (λ b. cond b (expiring s w) (telling s room w)) (le-ltb w.position s.compacted above))
+pub sent_is : (s : HistoryWindow) (w : Cursor) (room : ℕ) (turn : Turn) → s.compacted ≤ w.position → turn ≡ sending s room w → turn ≡ pumped s room w
+sent_is s w room turn above is = is ∙ sym (ap (λ b. cond b (expiring s w) (sending s room w)) (le-ltb w.position s.compacted above))
 
 -- ---- what is there at the opening
 
-pub none_stand : (es : Entries) (items : List Entry) → map entry_of items ≡ take 1 es → (length items == 0) ≡ true → NoObjects ≡ initial_of es
+pub none_stand : (es : Entries) (items : List Entry) → map entry_of items ≡ take 1 es → (length items == 0) ≡ true → NoneSelected ≡ initial_of es
 none_stand [] items is none = refl
 none_stand (e ∷ es) [] is none = absurd cc
 none_stand (e ∷ es) (x ∷ xs) is none = let n : suc (length xs) ≡ 0 = eqb-true (suc (length xs)) 0 none in absurd (omega (arith, n))
@@ -145,14 +145,14 @@ turn_by current objects changes room w = record {
   lines = map line_of (take room (map added objects ++ changes));
   ended = false;
   next = moved w (position_by (nat_lt (length (map added objects ++ changes)) room) current (reached w.position (take (room - length objects) changes)))
-      (reached w.told (take (room - length objects) changes)) (left_past room objects w.left);
+      (reached w.sent (take (room - length objects) changes)) (left_past room objects w.left);
 }
 
 pub by_view : (h : History) (room : ℕ) (w : Cursor) → IsHistory h → pumped (from_view (view h)) room w ≡ pumped (from_history h) room w
 by_view h room w is = go (nat_lt w.position h.compacted) refl
   where
     go : (b : Bool) → nat_lt w.position h.compacted ≡ b
-        → cond b (expiring (from_view (view h)) w) (telling (from_view (view h)) room w) ≡ cond b (expiring (from_history h) w) (telling (from_history h) room w)
+        → cond b (expiring (from_view (view h)) w) (sending (from_view (view h)) room w) ≡ cond b (expiring (from_history h) w) (sending (from_history h) room w)
     go true below = refl
     go false above =
         let low : h.compacted ≤ w.position = ltb-false w.position h.compacted above in

@@ -1,4 +1,4 @@
--- What is left to be told after a turn, and what its position passes.
+-- What is left to be sent after a turn, and what its position passes.
 use Rattle.std.proofs.Common.{◌≡◌, ◌⊎◌, inl, inr, ℕ, zero, suc, ◌+◌, ◌-◌, ◌<◌, ◌≤◌, max, Bool, true, false, cond, List, [], ◌∷◌, ◌++◌, length, take, drop, map, filter, Option, Some, None, option_map, refl, sym, ap, ap₂, subst, ◌∙◌, arith, append_assoc, leb-true, leb-false, le-ltb, ltb-true, ltb-false, length-append, zero-le, drop_of_length-le, take-append-drop}
 use Rattle.std.specs.Prelude.{nat_le, nat_lt, ◌&&◌, ◌==◌}
 use Rattle.std.proofs.lemmas.Bool.{lt-leb}
@@ -9,7 +9,7 @@ use Rattle.selector.specs.Requirement.{Requirement, selects}
 use Rattle.history.specs.History.{Change, History, IsHistory, IsRising, Key, Object, Objects, changed, later, left_by, put_or_remove, state_at, up_to, written}
 use Rattle.history.specs.Page.{is_in_namespace, is_within, listed}
 use Rattle.history.specs.Seen.{SeenChange, Selection, left_after, reached, seen_among, seen_changes, seen_of, selected, last_key, past}
-use Rattle.history.proofs.Following.{front_seen, seen_changes-push}
+use Rattle.history.proofs.Following.{prefix_seen, seen_changes-push}
 use Rattle.history.proofs.Leading.{more}
 use Rattle.history.proofs.Lists.{filter_both, filter_like}
 use Rattle.history.proofs.Paging.{listed_first, listed_past}
@@ -18,12 +18,12 @@ use Rattle.history.proofs.Selecting.{entries-selected}
 use Rattle.history.proofs.Views.{state_in_is}
 use Rattle.lists.specs.Labels.{labels_of, selection_of}
 use Rattle.lists.specs.Rows.{Start}
-use Rattle.watchline.specs.declared.opening.Initial.{Initial}
-use Rattle.watchline.specs.declared.opening.Initial.TheVariants.{Changes, NoObjects, Objects as SomeObjects}
+use Rattle.watchline.specs.declared.opening.InitialEvents.{InitialEvents}
+use Rattle.watchline.specs.declared.opening.InitialEvents.TheVariants.{Changes, NoneSelected, Objects as SomeObjects}
 use Rattle.watchline.specs.Lines.{added, bookmark_line, line_of}
-use Rattle.watchline.specs.Opening.{WatchFrom, begun, told_of}
-use Rattle.watchline.specs.Turns.{PassesNothing, after_turns, lines_by, room_of}
-use Rattle.watchline.specs.Watches.{Cursor, Left, Marking, Turn, bookmarked, changes_left, changes_told, coming, entries_left, expiring, from_history, is_bookmark_due, key_at, left_behind, left_from, left_past, moved, none_left, objects_left, position_by, position_past, pumped, telling, wanted}
+use Rattle.watchline.specs.Opening.{WatchFrom, first_cursor, sent_of}
+use Rattle.watchline.specs.TurnLaws.{SkipsNothing, after_turns, lines_by, room_of}
+use Rattle.watchline.specs.Watches.{Cursor, InitialLeft, BookmarkTurn, Turn, bookmarked, changes_left, changes_sent, coming, entries_left, expiring, from_history, is_bookmark_due, key_at, left_behind, initial_left_from, left_past, moved, no_initial_left, objects_left, position_by, position_past, pumped, sending, wanted}
 use Rattle.watchline.proofs.Coming.{Entries}
 use Rattle.watchline.proofs.Putting.{drop-add, drop-behind}
 
@@ -71,7 +71,7 @@ by_more : (kind n : ℕ) (all es : Entries) → ((k : Key) → last_key (take (s
 by_more kind n all es on true lots = by_last kind n all es (ltb-true (suc n) (length es) lots) on (last_key (take (suc n) es)) refl
 by_more kind n all es on false few = sym (drop_of_length-le es (ltb-false (suc n) (length es) few))
 
-left_is : (kind room : ℕ) (all es : Entries) (left : Left) → 0 < room → ((k : Key) → last_key (take room es) ≡ Some k → past (key_at kind (k.namespace, k.name)) all ≡ drop room es)
+left_is : (kind room : ℕ) (all es : Entries) (left : InitialLeft) → 0 < room → ((k : Key) → last_key (take room es) ≡ Some k → past (key_at kind (k.namespace, k.name)) all ≡ drop room es)
     → entries_left kind (left_past room es left) all ≡ drop room es
 left_is kind zero all es left some on = absurd (omega (arith, some))
 left_is kind (suc n) all es left some on = by_more kind n all es on (nat_lt (suc n) (length es)) refl
@@ -79,7 +79,7 @@ left_is kind (suc n) all es left some on = by_more kind n all es on (nat_lt (suc
 abbrev Selected : ℕ → Option (List ℕ) → List Requirement → Objects → Objects
 Selected kind namespace requirements s = selected (selection_of kind namespace requirements) s
 
--- after the last that was told there are those that weren't
+-- after the last that was sent there are those that weren't
 goes_on : (kind : ℕ) (namespace : Option (List ℕ)) (requirements : List Requirement) (start : Start) (s : Objects) (room : ℕ) (k : Key)
     → last_key (take room (left_after (option_map (key_at kind) start) (fin.entries (Selected kind namespace requirements s)))) ≡ Some k
     → past (key_at kind (k.namespace, k.name)) (fin.entries (Selected kind namespace requirements s)) ≡ drop room (left_after (option_map (key_at kind) start) (fin.entries (Selected kind namespace requirements s)))
@@ -96,21 +96,21 @@ goes_on kind namespace requirements start s room k is =
     )
 
 -- what is left of the objects after a turn that has room
-objects_on : (kind : ℕ) (namespace : Option (List ℕ)) (requirements : List Requirement) (left : Left) (s : Objects) (room : ℕ) → 0 < room
+objects_on : (kind : ℕ) (namespace : Option (List ℕ)) (requirements : List Requirement) (left : InitialLeft) (s : Objects) (room : ℕ) → 0 < room
     → entries_left kind (left_past room (entries_left kind left (fin.entries (Selected kind namespace requirements s))) left) (fin.entries (Selected kind namespace requirements s))
     ≡ drop room (entries_left kind left (fin.entries (Selected kind namespace requirements s)))
-objects_on kind namespace requirements none_left s room some =
-    left_is kind room (fin.entries (Selected kind namespace requirements s)) [] none_left some (λ k is. absurd (no_last room k is))
+objects_on kind namespace requirements no_initial_left s room some =
+    left_is kind room (fin.entries (Selected kind namespace requirements s)) [] no_initial_left some (λ k is. absurd (no_last room k is))
   where
     no_last : (n : ℕ) (k : Key) → last_key (take n []) ≡ Some k → ⊥
     no_last zero k is = absurd cc
     no_last (suc n) k is = absurd cc
-objects_on kind namespace requirements (left_from start) s room some =
-    left_is kind room (fin.entries (Selected kind namespace requirements s)) (left_after (option_map (key_at kind) start) (fin.entries (Selected kind namespace requirements s))) (left_from start) some
+objects_on kind namespace requirements (initial_left_from start) s room some =
+    left_is kind room (fin.entries (Selected kind namespace requirements s)) (left_after (option_map (key_at kind) start) (fin.entries (Selected kind namespace requirements s))) (initial_left_from start) some
     (λ k is. goes_on kind namespace requirements start s room k is)
 
--- where all of them were told none is left
-none_on : (kind room : ℕ) (es all : Entries) (left : Left) → 0 < room → length es ≤ room → entries_left kind (left_past room es left) all ≡ []
+-- where all of them were sent none is left
+none_on : (kind room : ℕ) (es all : Entries) (left : InitialLeft) → 0 < room → length es ≤ room → entries_left kind (left_past room es left) all ≡ []
 none_on kind zero es all left some few = absurd (omega (arith, some))
 none_on kind (suc n) es all left some few = by_few (nat_lt (suc n) (length es)) refl
   where
@@ -156,10 +156,10 @@ none_after q (c ∷ cs) = go (nat_lt q c.revision) refl (none_after q cs)
 pub none_between : (seen : Selection) (cs : List Change) (q : ℕ) → seen_changes seen cs q q ≡ []
 none_between seen cs q = ap (seen_among seen (state_at cs q)) (none_after q cs)
 
--- ---- where a turn of changes leads to: those of the front are told, and where room is left nothing else is to be seen
+-- ---- where a turn of changes leads to: those of the prefix are sent, and where room is left nothing else is to be seen
 
-abbrev Stands : Selection → List Change → ℕ → ℕ → ℕ → Bool → ℕ
-Stands seen cs p n top b = position_by b top (reached p (take n (seen_changes seen cs p top)))
+abbrev PositionAfter : Selection → List Change → ℕ → ℕ → ℕ → Bool → ℕ
+PositionAfter seen cs p n top b = position_by b top (reached p (take n (seen_changes seen cs p top)))
 
 none_taken : {A : Type 0} (n : ℕ) (xs : List A) → xs ≡ [] → take n xs ≡ []
 none_taken n xs is = ap (take n) is ∙ take_all n [] zero-le
@@ -168,7 +168,7 @@ none_dropped : {A : Type 0} (n : ℕ) (xs : List A) → xs ≡ [] → drop n xs 
 none_dropped n xs is = ap (drop n) is ∙ drop_of_length-le [] zero-le
 
 -- past the current number a watch stays where it stands
-over_stays : (seen : Selection) (cs : List Change) (p n top : ℕ) (b : Bool) → IsRising 0 cs top → top ≤ p → Stands seen cs p n top b ≡ p
+over_stays : (seen : Selection) (cs : List Change) (p n top : ℕ) (b : Bool) → IsRising 0 cs top → top ≤ p → PositionAfter seen cs p n top b ≡ p
 over_stays seen cs p n top b rise h =
     ap (λ xs. position_by b top (reached p xs)) (none_taken n (seen_changes seen cs p top) (none_past seen cs p top top h rise)) ∙ stays b
   where
@@ -178,92 +178,92 @@ over_stays seen cs p n top b rise h =
 
 -- what is left is what there was no room for
 left_below : (seen : Selection) (cs : List Change) (p n top : ℕ) (b : Bool) → IsRising 0 cs top → p ≤ top → (b ≡ true → length (seen_changes seen cs p top) < n)
-    → seen_changes seen cs (Stands seen cs p n top b) top ≡ drop n (seen_changes seen cs p top)
+    → seen_changes seen cs (PositionAfter seen cs p n top b) top ≡ drop n (seen_changes seen cs p top)
 left_below seen cs p n top true rise h few =
     let xs = seen_changes seen cs p top in
     let q = reached p (take n xs) in
     let short : length xs < n = few refl in
     let past_it : top ≤ max q top = omega arith in
     none_past seen cs (max q top) top top past_it rise ∙ sym (drop_of_length-le xs (omega (arith, short)))
-left_below seen cs p n top false rise h few = (front_seen seen cs top n p (seen_changes seen cs p top) rise h refl).left
+left_below seen cs p n top false rise h few = (prefix_seen seen cs top n p (seen_changes seen cs p top) rise h refl).left
 
-left_over : (seen : Selection) (cs : List Change) (p n top : ℕ) (b : Bool) → IsRising 0 cs top → top ≤ p → seen_changes seen cs (Stands seen cs p n top b) top ≡ drop n (seen_changes seen cs p top)
+left_over : (seen : Selection) (cs : List Change) (p n top : ℕ) (b : Bool) → IsRising 0 cs top → top ≤ p → seen_changes seen cs (PositionAfter seen cs p n top b) top ≡ drop n (seen_changes seen cs p top)
 left_over seen cs p n top b rise h =
     let none : seen_changes seen cs p top ≡ [] = none_past seen cs p top top h rise in
     ap (λ q. seen_changes seen cs q top) (over_stays seen cs p n top b rise h) ∙ none ∙ sym (none_dropped n (seen_changes seen cs p top) none)
 
 left_on : (seen : Selection) (cs : List Change) (p n top : ℕ) (b : Bool) → IsRising 0 cs top → (b ≡ true → length (seen_changes seen cs p top) < n)
-    → seen_changes seen cs (Stands seen cs p n top b) top ≡ drop n (seen_changes seen cs p top)
+    → seen_changes seen cs (PositionAfter seen cs p n top b) top ≡ drop n (seen_changes seen cs p top)
 left_on seen cs p n top b rise few = by_high (nat_le p top) refl
   where
-    by_high : (c : Bool) → nat_le p top ≡ c → seen_changes seen cs (Stands seen cs p n top b) top ≡ drop n (seen_changes seen cs p top)
+    by_high : (c : Bool) → nat_le p top ≡ c → seen_changes seen cs (PositionAfter seen cs p n top b) top ≡ drop n (seen_changes seen cs p top)
     by_high true is = left_below seen cs p n top b rise (leb-true p top is) few
     by_high false is = let h : top < p = leb-false p top is in left_over seen cs p n top b rise (omega (arith, h))
 
--- what the position passes was told
+-- what the position passes was sent
 passed_below : (seen : Selection) (cs : List Change) (p n top : ℕ) (b : Bool) → IsRising 0 cs top → p ≤ top → (b ≡ true → length (seen_changes seen cs p top) < n)
-    → seen_changes seen cs p (Stands seen cs p n top b) ≡ take n (seen_changes seen cs p top)
+    → seen_changes seen cs p (PositionAfter seen cs p n top b) ≡ take n (seen_changes seen cs p top)
 passed_below seen cs p n top true rise h few =
     let xs = seen_changes seen cs p top in
-    let front = front_seen seen cs top n p xs rise h refl in
+    let prefix = prefix_seen seen cs top n p xs rise h refl in
     let short : length xs < n = few refl in
-    let high : reached p (take n xs) ≤ top = front.high in
+    let high : reached p (take n xs) ≤ top = prefix.high in
     let same : max (reached p (take n xs)) top ≡ top = omega (arith, high) in
     ap (seen_changes seen cs p) same ∙ sym (take_all n xs (omega (arith, short)))
 passed_below seen cs p n top false rise h few =
     let xs = seen_changes seen cs p top in
-    let front = front_seen seen cs top n p xs rise h refl in
+    let prefix = prefix_seen seen cs top n p xs rise h refl in
     let q = reached p (take n xs) in
     append_cancel_right (seen_changes seen cs p q) (take n xs) (drop n xs) (
-    ap (λ ys. seen_changes seen cs p q ++ ys) (sym front.left) ∙ sym (seen_split seen cs p q top top front.low front.high rise) ∙ sym (take-append-drop n xs)
+    ap (λ ys. seen_changes seen cs p q ++ ys) (sym prefix.left) ∙ sym (seen_split seen cs p q top top prefix.low prefix.high rise) ∙ sym (take-append-drop n xs)
     )
 
 passed_on : (seen : Selection) (cs : List Change) (p n top : ℕ) (b : Bool) → IsRising 0 cs top → (b ≡ true → length (seen_changes seen cs p top) < n)
-    → seen_changes seen cs p (Stands seen cs p n top b) ≡ take n (seen_changes seen cs p top)
+    → seen_changes seen cs p (PositionAfter seen cs p n top b) ≡ take n (seen_changes seen cs p top)
 passed_on seen cs p n top b rise few = by_high (nat_le p top) refl
   where
-    by_high : (c : Bool) → nat_le p top ≡ c → seen_changes seen cs p (Stands seen cs p n top b) ≡ take n (seen_changes seen cs p top)
+    by_high : (c : Bool) → nat_le p top ≡ c → seen_changes seen cs p (PositionAfter seen cs p n top b) ≡ take n (seen_changes seen cs p top)
     by_high true is = passed_below seen cs p n top b rise (leb-true p top is) few
     by_high false is =
         let h : top < p = leb-false p top is in
         let over : top ≤ p = omega (arith, h) in
-        none_past seen cs p top (Stands seen cs p n top b) over rise ∙ sym (none_taken n (seen_changes seen cs p top) (none_past seen cs p top top over rise))
+        none_past seen cs p top (PositionAfter seen cs p n top b) over rise ∙ sym (none_taken n (seen_changes seen cs p top) (none_past seen cs p top top over rise))
 
--- nothing is seen between the last that was told and the position
+-- nothing is seen between the last that was sent and the position
 behind_below : (seen : Selection) (cs : List Change) (p n top : ℕ) (b : Bool) → IsRising 0 cs top → p ≤ top → (b ≡ true → length (seen_changes seen cs p top) < n)
-    → seen_changes seen cs (reached p (take n (seen_changes seen cs p top))) (Stands seen cs p n top b) ≡ []
+    → seen_changes seen cs (reached p (take n (seen_changes seen cs p top))) (PositionAfter seen cs p n top b) ≡ []
 behind_below seen cs p n top true rise h few =
     let xs = seen_changes seen cs p top in
-    let front = front_seen seen cs top n p xs rise h refl in
+    let prefix = prefix_seen seen cs top n p xs rise h refl in
     let short : length xs < n = few refl in
-    let high : reached p (take n xs) ≤ top = front.high in
+    let high : reached p (take n xs) ≤ top = prefix.high in
     let same : max (reached p (take n xs)) top ≡ top = omega (arith, high) in
-    ap (seen_changes seen cs (reached p (take n xs))) same ∙ front.left ∙ drop_of_length-le xs (omega (arith, short))
+    ap (seen_changes seen cs (reached p (take n xs))) same ∙ prefix.left ∙ drop_of_length-le xs (omega (arith, short))
 behind_below seen cs p n top false rise h few = none_between seen cs (reached p (take n (seen_changes seen cs p top)))
 
 behind_on : (seen : Selection) (cs : List Change) (p n top : ℕ) (b : Bool) → IsRising 0 cs top → (b ≡ true → length (seen_changes seen cs p top) < n)
-    → seen_changes seen cs (reached p (take n (seen_changes seen cs p top))) (Stands seen cs p n top b) ≡ []
+    → seen_changes seen cs (reached p (take n (seen_changes seen cs p top))) (PositionAfter seen cs p n top b) ≡ []
 behind_on seen cs p n top b rise few = by_high (nat_le p top) refl
   where
-    by_high : (c : Bool) → nat_le p top ≡ c → seen_changes seen cs (reached p (take n (seen_changes seen cs p top))) (Stands seen cs p n top b) ≡ []
+    by_high : (c : Bool) → nat_le p top ≡ c → seen_changes seen cs (reached p (take n (seen_changes seen cs p top))) (PositionAfter seen cs p n top b) ≡ []
     by_high true is = behind_below seen cs p n top b rise (leb-true p top is) few
     by_high false is =
         let h : top < p = leb-false p top is in
         let over : top ≤ p = omega (arith, h) in
-        ap (λ xs. seen_changes seen cs (reached p xs) (Stands seen cs p n top b)) (none_taken n (seen_changes seen cs p top) (none_past seen cs p top top over rise))
-        ∙ none_past seen cs p top (Stands seen cs p n top b) over rise
+        ap (λ xs. seen_changes seen cs (reached p xs) (PositionAfter seen cs p n top b)) (none_taken n (seen_changes seen cs p top) (none_past seen cs p top top over rise))
+        ∙ none_past seen cs p top (PositionAfter seen cs p n top b) over rise
 
 stands_above : (top q : ℕ) (b : Bool) → q ≤ position_by b top q
 stands_above top q true = omega arith
 stands_above top q false = omega arith
 
-rises_on : (seen : Selection) (cs : List Change) (p n top : ℕ) (b : Bool) → IsRising 0 cs top → p ≤ Stands seen cs p n top b
+rises_on : (seen : Selection) (cs : List Change) (p n top : ℕ) (b : Bool) → IsRising 0 cs top → p ≤ PositionAfter seen cs p n top b
 rises_on seen cs p n top b rise = by_high (nat_le p top) refl
   where
-    by_high : (c : Bool) → nat_le p top ≡ c → p ≤ Stands seen cs p n top b
+    by_high : (c : Bool) → nat_le p top ≡ c → p ≤ PositionAfter seen cs p n top b
     by_high true is =
         let xs = seen_changes seen cs p top in
-        let low : p ≤ reached p (take n xs) = (front_seen seen cs top n p xs rise (leb-true p top is) refl).low in
+        let low : p ≤ reached p (take n xs) = (prefix_seen seen cs top n p xs rise (leb-true p top is) refl).low in
         let up : reached p (take n xs) ≤ position_by b top (reached p (take n xs)) = stands_above top (reached p (take n xs)) b in
         omega (arith, low, up)
     by_high false is =
@@ -272,14 +272,14 @@ rises_on seen cs p n top b rise = by_high (nat_le p top) refl
 
 -- ---- a turn
 
-objects_after : (kind : ℕ) (namespace : Option (List ℕ)) (requirements : List Requirement) (left : Left) (s : Objects) (room : ℕ)
+objects_after : (kind : ℕ) (namespace : Option (List ℕ)) (requirements : List Requirement) (left : InitialLeft) (s : Objects) (room : ℕ)
     → entries_left kind (left_past room (entries_left kind left (fin.entries (Selected kind namespace requirements s))) left) (fin.entries (Selected kind namespace requirements s))
     ≡ drop room (entries_left kind left (fin.entries (Selected kind namespace requirements s)))
 objects_after kind namespace requirements left s zero = refl
 objects_after kind namespace requirements left s (suc n) = objects_on kind namespace requirements left s (suc n) (omega arith)
 
-pub told_low : (h : History) (room : ℕ) (w : Cursor) → h.compacted ≤ w.position → pumped (from_history h) room w ≡ telling (from_history h) room w
-told_low h room w low = ap (λ b. cond b (expiring (from_history h) w) (telling (from_history h) room w)) (le-ltb w.position h.compacted low)
+pub sent_low : (h : History) (room : ℕ) (w : Cursor) → h.compacted ≤ w.position → pumped (from_history h) room w ≡ sending (from_history h) room w
+sent_low h room w low = ap (λ b. cond b (expiring (from_history h) w) (sending (from_history h) room w)) (le-ltb w.position h.compacted low)
 
 module _ (h : History) (room : ℕ) (w : Cursor) (is : IsHistory h) where
   has_room : Bool
@@ -303,10 +303,10 @@ module _ (h : History) (room : ℕ) (w : Cursor) (is : IsHistory h) where
       let none : room - length (objects_left (from_history h) w) ≡ 0 = omega (arith, lots) in
       ap₂ (λ b n. position_by b h.current (reached w.position (take n (changes_left (from_history h) w)))) no_room none
 
-  objects_next : objects_left (from_history h) (telling (from_history h) room w).next ≡ drop room (objects_left (from_history h) w)
+  objects_next : objects_left (from_history h) (sending (from_history h) room w).next ≡ drop room (objects_left (from_history h) w)
   objects_next = by_room (nat_lt (length (objects_left (from_history h) w)) room) refl
     where
-      by_room : (b : Bool) → nat_lt (length (objects_left (from_history h) w)) room ≡ b → objects_left (from_history h) (telling (from_history h) room w).next ≡ drop room (objects_left (from_history h) w)
+      by_room : (b : Bool) → nat_lt (length (objects_left (from_history h) w)) room ≡ b → objects_left (from_history h) (sending (from_history h) room w).next ≡ drop room (objects_left (from_history h) w)
       by_room true t =
           let few : length (objects_left (from_history h) w) < room = ltb-true (length (objects_left (from_history h) w)) room t in
           none_on w.kind room (objects_left (from_history h) w) (fin.entries (selected (wanted w) (state_at h.changes (position_past (from_history h) room w)))) w.left (omega (arith, few)) (omega (arith, few))
@@ -316,45 +316,45 @@ module _ (h : History) (room : ℕ) (w : Cursor) (is : IsHistory h) where
           (stays_put (ltb-false (length (objects_left (from_history h) w)) room t))
           ∙ objects_after w.kind w.namespace w.requirements w.left (state_at h.changes w.position) room
 
-  changes_next : changes_left (from_history h) (telling (from_history h) room w).next ≡ drop (room - length (objects_left (from_history h) w)) (changes_left (from_history h) w)
+  changes_next : changes_left (from_history h) (sending (from_history h) room w).next ≡ drop (room - length (objects_left (from_history h) w)) (changes_left (from_history h) w)
   changes_next = left_on (wanted w) h.changes w.position (room - length (objects_left (from_history h) w)) h.current (nat_lt (length (coming (from_history h) w)) room) is.rising fits
 
-  left_next : coming (from_history h) (telling (from_history h) room w).next ≡ drop room (coming (from_history h) w)
+  left_next : coming (from_history h) (sending (from_history h) room w).next ≡ drop room (coming (from_history h) w)
   left_next =
       ap₂ (λ es xs. map added es ++ xs) objects_next changes_next
       ∙ ap₂ (λ es n. es ++ drop n (changes_left (from_history h) w)) (sym (drop-map added room (objects_left (from_history h) w))) (ap (λ n. room - n) (sym (length-map (objects_left (from_history h) w) added)))
       ∙ sym (drop-behind room (map added (objects_left (from_history h) w)) (changes_left (from_history h) w))
 
-  passes_told : seen_changes (wanted w) h.changes w.position (position_past (from_history h) room w) ≡ changes_told (from_history h) room w
-  passes_told = passed_on (wanted w) h.changes w.position (room - length (objects_left (from_history h) w)) h.current (nat_lt (length (coming (from_history h) w)) room) is.rising fits
+  passes_sent : seen_changes (wanted w) h.changes w.position (position_past (from_history h) room w) ≡ changes_sent (from_history h) room w
+  passes_sent = passed_on (wanted w) h.changes w.position (room - length (objects_left (from_history h) w)) h.current (nat_lt (length (coming (from_history h) w)) room) is.rising fits
 
   rises : w.position ≤ position_past (from_history h) room w
   rises = rises_on (wanted w) h.changes w.position (room - length (objects_left (from_history h) w)) h.current (nat_lt (length (coming (from_history h) w)) room) is.rising
 
-  -- what was told last, or where it stood
-  nothing_behind : seen_changes (wanted w) h.changes (reached w.position (changes_told (from_history h) room w)) (position_past (from_history h) room w) ≡ []
+  -- what was sent last, or where it stood
+  nothing_behind : seen_changes (wanted w) h.changes (reached w.position (changes_sent (from_history h) room w)) (position_past (from_history h) room w) ≡ []
   nothing_behind = behind_on (wanted w) h.changes w.position (room - length (objects_left (from_history h) w)) h.current (nat_lt (length (coming (from_history h) w)) room) is.rising fits
 
-  telling_passes : PassesNothing h w → PassesNothing h (telling (from_history h) room w).next
-  telling_passes before = by_told (changes_told (from_history h) room w) refl
+  telling_passes : SkipsNothing h w → SkipsNothing h (sending (from_history h) room w).next
+  telling_passes before = by_sent (changes_sent (from_history h) room w) refl
     where
-      by_told : (xs : List SeenChange) → changes_told (from_history h) room w ≡ xs → PassesNothing h (telling (from_history h) room w).next
-      by_told [] none =
-          let same : reached w.told (changes_told (from_history h) room w) ≡ w.told = ap (reached w.told) none in
-          let low : w.told ≤ w.position = before.behind in
+      by_sent : (xs : List SeenChange) → changes_sent (from_history h) room w ≡ xs → SkipsNothing h (sending (from_history h) room w).next
+      by_sent [] none =
+          let same : reached w.sent (changes_sent (from_history h) room w) ≡ w.sent = ap (reached w.sent) none in
+          let low : w.sent ≤ w.position = before.behind in
           let up : w.position ≤ position_past (from_history h) room w = rises in
-          let high : w.told ≤ position_past (from_history h) room w = omega (arith, low, up) in
+          let high : w.sent ≤ position_past (from_history h) room w = omega (arith, low, up) in
           record {
             behind = subst (λ t. t ≤ position_past (from_history h) room w) (sym same) high;
             none = λ some.
                 ap (λ t. seen_changes (wanted w) h.changes t (position_past (from_history h) room w)) same
-                ∙ seen_split (wanted w) h.changes w.told w.position (position_past (from_history h) room w) h.current low up is.rising
-                ∙ ap₂ (λ xs ys. xs ++ ys) (before.none (subst (λ t. 0 < t) same some)) (passes_told ∙ none);
+                ∙ seen_split (wanted w) h.changes w.sent w.position (position_past (from_history h) room w) h.current low up is.rising
+                ∙ ap₂ (λ xs ys. xs ++ ys) (before.none (subst (λ t. 0 < t) same some)) (passes_sent ∙ none);
           }
-      by_told (x ∷ xs) some =
-          let same : reached w.told (changes_told (from_history h) room w) ≡ reached w.position (changes_told (from_history h) room w) = ap (reached w.told) some ∙ sym (ap (reached w.position) some) in
-          let up : reached w.position (changes_told (from_history h) room w) ≤ position_past (from_history h) room w
-          = stands_above h.current (reached w.position (changes_told (from_history h) room w)) (nat_lt (length (coming (from_history h) w)) room) in
+      by_sent (x ∷ xs) some =
+          let same : reached w.sent (changes_sent (from_history h) room w) ≡ reached w.position (changes_sent (from_history h) room w) = ap (reached w.sent) some ∙ sym (ap (reached w.position) some) in
+          let up : reached w.position (changes_sent (from_history h) room w) ≤ position_past (from_history h) room w
+          = stands_above h.current (reached w.position (changes_sent (from_history h) room w)) (nat_lt (length (coming (from_history h) w)) room) in
           record {
             behind = subst (λ t. t ≤ position_past (from_history h) room w) (sym same) up;
             none = λ _. ap (λ t. seen_changes (wanted w) h.changes t (position_past (from_history h) room w)) same ∙ nothing_behind;
@@ -362,31 +362,31 @@ module _ (h : History) (room : ℕ) (w : Cursor) (is : IsHistory h) where
 
 -- ---- the laws of a turn
 
-pub tells : (h : History) (room : ℕ) (w : Cursor) → IsHistory h → h.compacted ≤ w.position → (pumped (from_history h) room w).lines ≡ map line_of (take room (coming (from_history h) w))
-tells h room w is low = ap (λ (t : Turn). t.lines) (told_low h room w low)
+pub sends : (h : History) (room : ℕ) (w : Cursor) → IsHistory h → h.compacted ≤ w.position → (pumped (from_history h) room w).lines ≡ map line_of (take room (coming (from_history h) w))
+sends h room w is low = ap (λ (t : Turn). t.lines) (sent_low h room w low)
 
 pub leads_on : (h : History) (room : ℕ) (w : Cursor) → IsHistory h → h.compacted ≤ w.position → coming (from_history h) (pumped (from_history h) room w).next ≡ drop room (coming (from_history h) w)
-leads_on h room w is low = ap (λ (t : Turn). coming (from_history h) t.next) (told_low h room w low) ∙ left_next h room w is
+leads_on h room w is low = ap (λ (t : Turn). coming (from_history h) t.next) (sent_low h room w low) ∙ left_next h room w is
 
 pub stays_low : (h : History) (room : ℕ) (w : Cursor) → IsHistory h → h.compacted ≤ w.position → h.compacted ≤ (pumped (from_history h) room w).next.position
 stays_low h room w is low =
     let up : w.position ≤ position_past (from_history h) room w = rises h room w is in
-    subst (λ (t : Turn). h.compacted ≤ t.next.position) (sym (told_low h room w low)) (omega (arith, low, up))
+    subst (λ (t : Turn). h.compacted ≤ t.next.position) (sym (sent_low h room w low)) (omega (arith, low, up))
 
-pub tells_passed : (h : History) (room : ℕ) (w : Cursor) → IsHistory h → h.compacted ≤ w.position
-    → seen_changes (wanted w) h.changes w.position (pumped (from_history h) room w).next.position ≡ changes_told (from_history h) room w
-tells_passed h room w is low = ap (λ (t : Turn). seen_changes (wanted w) h.changes w.position t.next.position) (told_low h room w low) ∙ passes_told h room w is
+pub sends_passed : (h : History) (room : ℕ) (w : Cursor) → IsHistory h → h.compacted ≤ w.position
+    → seen_changes (wanted w) h.changes w.position (pumped (from_history h) room w).next.position ≡ changes_sent (from_history h) room w
+sends_passed h room w is low = ap (λ (t : Turn). seen_changes (wanted w) h.changes w.position t.next.position) (sent_low h room w low) ∙ passes_sent h room w is
 
 -- ---- turns
 
-pub tell_in_order : (h : History) (rooms : List ℕ) (w : Cursor) → IsHistory h → h.compacted ≤ w.position
+pub send_in_order : (h : History) (rooms : List ℕ) (w : Cursor) → IsHistory h → h.compacted ≤ w.position
     → lines_by (from_history h) rooms w ≡ map line_of (take (room_of rooms) (coming (from_history h) w))
-tell_in_order h [] w is low = refl
-tell_in_order h (room ∷ rooms) w is low =
+send_in_order h [] w is low = refl
+send_in_order h (room ∷ rooms) w is low =
     let all = coming (from_history h) w in
     let next = (pumped (from_history h) room w).next in
-    ap₂ (λ xs ys. xs ++ ys) (tells h room w is low)
-    (tell_in_order h rooms next is (stays_low h room w is low) ∙ ap (λ xs. map line_of (take (room_of rooms) xs)) (leads_on h room w is low))
+    ap₂ (λ xs ys. xs ++ ys) (sends h room w is low)
+    (send_in_order h rooms next is (stays_low h room w is low) ∙ ap (λ xs. map line_of (take (room_of rooms) xs)) (leads_on h room w is low))
     ∙ sym (map-append line_of (take room all) (take (room_of rooms) (drop room all))) ∙ ap (map line_of) (sym (take-add room (room_of rooms) all))
 
 pub left_in_order : (h : History) (rooms : List ℕ) (w : Cursor) → IsHistory h → h.compacted ≤ w.position
@@ -398,60 +398,60 @@ left_in_order h (room ∷ rooms) w is low =
 
 -- ---- positions
 
-pub begins_passing : (h : History) (from : WatchFrom) → IsHistory h → PassesNothing h (begun from)
+pub begins_passing : (h : History) (from : WatchFrom) → IsHistory h → SkipsNothing h (first_cursor from)
 begins_passing h from is = by_initial from.initial refl
   where
-    by_initial : (i : Initial) → from.initial ≡ i → PassesNothing h (begun from)
+    by_initial : (i : InitialEvents) → from.initial ≡ i → SkipsNothing h (first_cursor from)
     by_initial Changes t =
-        let same : told_of from.initial from.position ≡ from.position = ap (λ i. told_of i from.position) t in
+        let same : sent_of from.initial from.position ≡ from.position = ap (λ i. sent_of i from.position) t in
         record {
           behind = subst (λ n. n ≤ from.position) (sym same) (omega arith);
-          none = λ _. ap (λ n. seen_changes (wanted (begun from)) h.changes n from.position) same ∙ none_between (wanted (begun from)) h.changes from.position;
+          none = λ _. ap (λ n. seen_changes (wanted (first_cursor from)) h.changes n from.position) same ∙ none_between (wanted (first_cursor from)) h.changes from.position;
         }
     by_initial SomeObjects t =
-        let same : told_of from.initial from.position ≡ 0 = ap (λ i. told_of i from.position) t in
+        let same : sent_of from.initial from.position ≡ 0 = ap (λ i. sent_of i from.position) t in
         record { behind = subst (λ n. n ≤ from.position) (sym same) zero-le; none = λ some. absurd (omega (arith, some, same)) }
-    by_initial NoObjects t =
-        let same : told_of from.initial from.position ≡ 0 = ap (λ i. told_of i from.position) t in
+    by_initial NoneSelected t =
+        let same : sent_of from.initial from.position ≡ 0 = ap (λ i. sent_of i from.position) t in
         record { behind = subst (λ n. n ≤ from.position) (sym same) zero-le; none = λ some. absurd (omega (arith, some, same)) }
 
-pub pumped_passes : (h : History) (room : ℕ) (w : Cursor) → IsHistory h → PassesNothing h w → PassesNothing h (pumped (from_history h) room w).next
+pub pumped_passes : (h : History) (room : ℕ) (w : Cursor) → IsHistory h → SkipsNothing h w → SkipsNothing h (pumped (from_history h) room w).next
 pumped_passes h room w is before = by_low (nat_lt w.position h.compacted)
   where
-    by_low : (b : Bool) → PassesNothing h (cond b (expiring (from_history h) w) (telling (from_history h) room w)).next
+    by_low : (b : Bool) → SkipsNothing h (cond b (expiring (from_history h) w) (sending (from_history h) room w)).next
     by_low true = before
     by_low false = telling_passes h room w is before
 
-abbrev marked_line : List ℕ → List ℕ → Cursor → Marking
+abbrev marked_line : List ℕ → List ℕ → Cursor → BookmarkTurn
 marked_line api_version kind w = record { line = Some (bookmark_line api_version kind w.position); next = moved w w.position w.position w.left }
 
-abbrev unmarked : Cursor → Marking
+abbrev unmarked : Cursor → BookmarkTurn
 unmarked w = record { line = None; next = w }
 
-pub marked_passes : (h : History) (api_version kind : List ℕ) (w : Cursor) → IsHistory h → PassesNothing h w → PassesNothing h (bookmarked api_version kind w).next
+pub marked_passes : (h : History) (api_version kind : List ℕ) (w : Cursor) → IsHistory h → SkipsNothing h w → SkipsNothing h (bookmarked api_version kind w).next
 marked_passes h api_version kind w is before = by_due (is_bookmark_due w)
   where
-    by_due : (b : Bool) → PassesNothing h (cond b (marked_line api_version kind w) (unmarked w)).next
+    by_due : (b : Bool) → SkipsNothing h (cond b (marked_line api_version kind w) (unmarked w)).next
     by_due true = record { behind = omega arith; none = λ _. none_between (wanted w) h.changes w.position }
     by_due false = before
 
-below_passes : (h : History) (k : Key) (body : Option (List ℕ)) (w : Cursor) → w.position ≤ h.current → PassesNothing h w → PassesNothing (written h k body) w
+below_passes : (h : History) (k : Key) (body : Option (List ℕ)) (w : Cursor) → w.position ≤ h.current → SkipsNothing h w → SkipsNothing (written h k body) w
 below_passes h k body w high before =
-    let low : w.told ≤ w.position = before.behind in
+    let low : w.sent ≤ w.position = before.behind in
     let above : w.position < suc h.current = omega (arith, high) in
-    let beyond : w.told < suc h.current = omega (arith, high, low) in
+    let beyond : w.sent < suc h.current = omega (arith, high, low) in
     record {
       behind = before.behind;
-      none = λ some. seen_changes-push (wanted w) h.changes (record { revision = suc h.current; key = k; body = body }) w.told w.position beyond above ∙ before.none some;
+      none = λ some. seen_changes-push (wanted w) h.changes (record { revision = suc h.current; key = k; body = body }) w.sent w.position beyond above ∙ before.none some;
     }
 
 -- between a revision and itself nothing stands, whatever is written
-level_passes : (h : History) (w : Cursor) → w.told ≡ w.position → PassesNothing h w
+level_passes : (h : History) (w : Cursor) → w.sent ≡ w.position → SkipsNothing h w
 level_passes h w level = record {
   behind = subst (λ t. t ≤ w.position) (sym level) (omega arith);
   none = λ _. ap (λ t. seen_changes (wanted w) h.changes t w.position) level ∙ none_between (wanted w) h.changes w.position;
 }
 
-pub written_passes : (h : History) (k : Key) (body : Option (List ℕ)) (w : Cursor) → (w.position ≤ h.current) ⊎ (w.told ≡ w.position) → PassesNothing h w → PassesNothing (written h k body) w
+pub written_passes : (h : History) (k : Key) (body : Option (List ℕ)) (w : Cursor) → (w.position ≤ h.current) ⊎ (w.sent ≡ w.position) → SkipsNothing h w → SkipsNothing (written h k body) w
 written_passes h k body w (inl high) before = below_passes h k body w high before
 written_passes h k body w (inr level) before = level_passes (written h k body) w level

@@ -2,7 +2,7 @@ pub mod Versions
 pub mod Lines
 pub mod Status
 pub mod Watches
-pub mod Turns
+pub mod TurnLaws
 pub mod Opening
-pub mod Batches
+pub mod BatchViews
 pub mod Views

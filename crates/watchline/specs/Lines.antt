@@ -46,7 +46,7 @@ added e = record { kind = Added; key = e.0; object = e.1 }
 
 -- ---- bookmarks
 
--- an object of the type that has a version alone: all changes up to it were told
+-- an object of the type that has a version alone: all changes up to it were sent
 abbrev pub bookmark_value : List ℕ → List ℕ → List ℕ → Data
 bookmark_value api_version kind version =
     object (put (codes "apiVersion") (string api_version) (put (codes "kind") (string kind)

@@ -1,4 +1,4 @@
--- The Status object that tells a failure (Kubernetes API conventions, "Response Status Kind").
+-- The Status object that reports a failure (Kubernetes API conventions, "Response Status Kind").
 use Rattle.std.specs.Prelude.{ℕ, List, codes}
 use Rattle.serde_json.specs.Data.{Data, number, unsigned, string, object, Members, no_members, put}
 

@@ -15,10 +15,10 @@ use Rattle.watchline.specs.declared.seen.SeenKind.TheVariants as kind
 use Rattle.watchline.specs.declared.seen.Seen.{Seen as TheSeen}
 use Rattle.watchline.specs.declared.opening.WatchFrom.{WatchFrom as TheWatchFrom}
 use Rattle.watchline.specs.declared.cursor.Scope.{Scope as TheScope}
-use Rattle.watchline.specs.declared.cursor.Standing.{Standing as TheStanding}
+use Rattle.watchline.specs.declared.cursor.Progress.{Progress as TheProgress}
 use Rattle.watchline.specs.declared.cursor.Pumped.{Pumped as ThePumped}
 use Rattle.watchline.specs.Opening.{WatchFrom}
-use Rattle.watchline.specs.Watches.{Cursor, Left, none_left, left_from, entries_left, Turn, Marking}
+use Rattle.watchline.specs.Watches.{Cursor, InitialLeft, no_initial_left, initial_left_from, entries_left, Turn, BookmarkTurn}
 
 -- ---- what is seen of a change
 
@@ -27,13 +27,13 @@ kind_seen kind.Added = history.Added
 kind_seen kind.Modified = history.Modified
 kind_seen kind.Deleted = history.Deleted
 
-abbrev pub change_seen : TheSeen → SeenChange
-change_seen s = record { kind = kind_seen s.kind; key = key_of s.key; object = object_of s.object }
+abbrev pub seen_change_of : TheSeen → SeenChange
+seen_change_of s = record { kind = kind_seen s.kind; key = key_of s.key; object = object_of s.object }
 
 -- one, or none
 abbrev pub seen_list : Option TheSeen → List SeenChange
 seen_list None = []
-seen_list (Some s) = change_seen s ∷ []
+seen_list (Some s) = seen_change_of s ∷ []
 
 -- ---- watches
 
@@ -48,19 +48,19 @@ watch_from f = record {
   timeout = f.timeout;
 }
 
-abbrev pub left_at : Option Start → Left
-left_at None = none_left
-left_at (Some start) = left_from (start_of start)
+abbrev pub initial_left_of : Option Start → InitialLeft
+initial_left_of None = no_initial_left
+initial_left_of (Some start) = initial_left_from (start_of start)
 
-abbrev pub cursor_of : TheScope → TheStanding → Cursor
-cursor_of scope standing = record {
+abbrev pub cursor_of : TheScope → TheProgress → Cursor
+cursor_of scope progress = record {
   kind = scope.kind;
   namespace = option_map string_bytes scope.namespace;
   requirements = scope.selector;
   bookmarks = scope.bookmarks;
-  position = standing.position;
-  told = standing.told;
-  left = left_at standing.left;
+  position = progress.position;
+  sent = progress.sent;
+  left = initial_left_of progress.left;
 }
 
 abbrev pub lines_in : List (String Global) → List (List ℕ)
@@ -69,12 +69,12 @@ lines_in = map string_bytes
 abbrev pub turn_of : ThePumped → Cursor → Turn
 turn_of p next = record { lines = lines_in p.lines.items; ended = p.ended; next = next }
 
-abbrev pub marking_of : Option (String Global) → Cursor → Marking
-marking_of line next = record { line = option_map string_bytes line; next = next }
+abbrev pub bookmark_turn : Option (String Global) → Cursor → BookmarkTurn
+bookmark_turn line next = record { line = option_map string_bytes line; next = next }
 
 -- ---- for private clauses: a part of the definition
 
 -- the objects of the selection at a position, from a start on
 abbrev pub objects_at : View → TheScope → ℕ → Start → List (Key × Object)
 objects_at v scope position start =
-    entries_left scope.kind (left_at (Some start)) (fin.entries (selected (selection_of scope.kind (option_map string_bytes scope.namespace) scope.selector) (state_in v position)))
+    entries_left scope.kind (initial_left_of (Some start)) (fin.entries (selected (selection_of scope.kind (option_map string_bytes scope.namespace) scope.selector) (state_in v position)))

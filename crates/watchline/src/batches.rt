@@ -8,13 +8,13 @@ ghost use Rattle.history.specs.Seen.{seen_in};
 ghost use Rattle.history.specs.View.{IsView};
 ghost use Rattle.lists.specs.Labels.{selection_of};
 ghost use Rattle.history.specs.Read.{change_of};
-ghost use Rattle.watchline.specs.Batches.{AreBetween, IsLow, changes_past, last_revision, to_read};
-ghost use Rattle.watchline.specs.Views.{change_seen};
+ghost use Rattle.watchline.specs.BatchViews.{AreBetween, IsNotBelow, changes_past, revision_of_last, to_read};
+ghost use Rattle.watchline.specs.Views.{seen_change_of};
 
 use crate::cursor::Scope;
 use crate::seen::{Seen, seen_each};
 use history::Change;
-use lists::RecentLabels;
+use lists::LabelCache;
 use revstore::{ChangesFault, Store};
 use revtable::Fault;
 
@@ -22,8 +22,8 @@ use revtable::Fault;
 const MAX_CHANGES: usize = 500;
 
 /// The revision of the last of these.
-fn last_revision(changes: &[Change]) -> Option<u64>
-    ensures { result ≡ last_revision (map change_of changes.now) }
+fn revision_of_last(changes: &[Change]) -> Option<u64>
+    ensures { result ≡ revision_of_last (map change_of changes.now) }
 {
     match changes.last() {
         Some(last) => Some(last.revision),
@@ -64,14 +64,14 @@ fn next_changes(
     ensures fewer { IfOk result (λ p. to_read scope.now.kind (option_map string_bytes scope.now.namespace) store.old p.1
         < to_read scope.now.kind (option_map string_bytes scope.now.namespace) store.old (prelude.Some after)) }
     ensures between { IfOk result (λ p. AreBetween store.old.compacted store.old.current (map change_of p.0.items)) }
-    ensures low { IfOk result (λ p. IsLow store.old.compacted p.1) }
+    ensures low { IfOk result (λ p. IsNotBelow store.old.compacted p.1) }
     ensures same { store.new ≡ store.old }
 {
     let changes = changes_after(store, scope, after, max as u64)?;
     if changes.len() < max {
         return Ok((changes, None));
     }
-    let next = last_revision(&changes);
+    let next = revision_of_last(&changes);
     Ok((changes, next))
 }
 
@@ -84,7 +84,7 @@ fn first_batch(max: usize) -> usize
 
 /// The first of these, at most so many.
 fn cut(found: Vec<Seen>, max: usize) -> Vec<Seen>
-    ensures { map change_seen result.items ≡ take max (map change_seen found.items) }
+    ensures { map seen_change_of result.items ≡ take max (map seen_change_of found.items) }
 {
     let mut found = found;
     found.truncate(max);
@@ -94,7 +94,7 @@ fn cut(found: Vec<Seen>, max: usize) -> Vec<Seen>
 /// The first that a watch sees after a revision, at most so much. Where little is seen of what is read, more is read
 /// at once: twice as many changes each time.
 pub(crate) fn seen_after(
-    labels: &mut RecentLabels,
+    labels: &mut LabelCache,
     store: &mut Store,
     scope: &Scope,
     after: u64,
@@ -102,7 +102,7 @@ pub(crate) fn seen_after(
 ) -> Result<Vec<Seen>, Fault>
     requires sound { IsView store.old }
     requires low { store.old.compacted ≤ after }
-    ensures seen { IfOk result (λ v. map change_seen v.items ≡ take max (seen_in (selection_of scope.now.kind (option_map string_bytes scope.now.namespace) scope.now.selector) store.old after store.old.current)) }
+    ensures seen { IfOk result (λ v. map seen_change_of v.items ≡ take max (seen_in (selection_of scope.now.kind (option_map string_bytes scope.now.namespace) scope.now.selector) store.old after store.old.current)) }
     ensures same { store.new ≡ store.old }
 {
     let mut found = Vec::new(labels.allocator());

@@ -1,22 +1,22 @@
-//! The cursor of a watch: its selection and its position, and the calls on it. What a pump tells stands in `telling`.
+//! The cursor of a watch: its selection and its position, and the calls on it. What a pump sends stands in `sending`.
 
 ghost use Rattle.std.specs.Prelude.{◌≡◌, false, IfOk, IfSome, IsTrue, None, Ok, OnErr, Some, is_some, option_map, string_bytes};
-ghost use Rattle.watchline.specs.Opening.{begun, left_of, told_of};
+ghost use Rattle.watchline.specs.Opening.{first_cursor, left_of, sent_of};
 ghost use Rattle.watchline.specs.Watches.{bookmarked, from_view, is_bookmark_due, is_none_left, moved, pumped, with_bookmarks};
-ghost use Rattle.watchline.specs.Views.{left_at, marking_of, turn_of, watch_from};
+ghost use Rattle.watchline.specs.Views.{initial_left_of, bookmark_turn, turn_of, watch_from};
 
 use crate::lines::bookmark_line;
-use crate::opening::{Initial, WatchFrom};
-use crate::telling::{expired, told};
+use crate::opening::{InitialEvents, WatchFrom};
+use crate::sending::{expired, sent};
 use json_values::copied;
-use lists::{Collection, RecentLabels, Start};
+use lists::{Collection, LabelCache, Start};
 use revstore::Store;
 use revtable::Fault;
 use selector::Selector;
 use std::alloc::{AllocError, Global};
 use std::marker::Model;
 
-/// What a watch is of, and whether it tells bookmarks.
+/// What a watch is of, and whether it sends bookmarks.
 #[derive(Debug, Drop)]
 pub(crate) struct Scope {
     pub(crate) kind: u32,
@@ -70,38 +70,38 @@ impl Scope {
     }
 }
 
-/// What was told.
+/// What was sent.
 #[derive(Debug, Drop)]
-pub(crate) struct Standing {
-    /// Each change up to this revision was told, or isn't seen.
+pub(crate) struct Progress {
+    /// Each change up to this revision was sent, or isn't seen.
     pub(crate) position: u64,
-    /// The last revision that the client was told; 0 before there is one.
-    pub(crate) told: u64,
-    /// Where the objects begin that stood when the watch was opened and are still to be told.
+    /// The last revision that the client was sent; 0 before there is one.
+    pub(crate) sent: u64,
+    /// Where the objects begin that stood when the watch was opened and are still to be sent.
     pub(crate) left: Option<Start>,
 }
 
-impl Standing {
-    /// Whether both stand at the same place, with no object left to be told.
-    fn is_alike(&self, other: &Standing) -> bool
+impl Progress {
+    /// Whether both stand at the same place, with no object left to be sent.
+    fn is_alike(&self, other: &Progress) -> bool
         ensures position { IsTrue result → self.now.position ≡ other.now.position }
-        ensures told { IsTrue result → self.now.told ≡ other.now.told }
-        ensures left { IsTrue result → left_at self.now.left ≡ left_at other.now.left }
+        ensures sent { IsTrue result → self.now.sent ≡ other.now.sent }
+        ensures left { IsTrue result → initial_left_of self.now.left ≡ initial_left_of other.now.left }
     {
         self.position == other.position
-            && self.told == other.told
+            && self.sent == other.sent
             && self.left.is_none()
             && other.left.is_none()
     }
 }
 
-/// Up to where a watch has told.
+/// Up to where a watch has sent.
 #[derive(Clone, Copy, Debug, PartialEq, Eq)]
-pub struct Reach {
-    /// Each change up to this revision was told, or isn't seen.
+pub struct ResumePoint {
+    /// Each change up to this revision was sent, or isn't seen.
     pub position: u64,
-    /// The last revision that the client was told; 0 before there is one.
-    pub told: u64,
+    /// The last revision that the client was sent; 0 before there is one.
+    pub sent: u64,
 }
 
 /// The lines of a pump, and whether the watch has ended by them.
@@ -117,7 +117,7 @@ pub struct Pumped {
 #[derive(Debug, Drop)]
 pub struct WatchCursor {
     scope: Scope,
-    standing: Standing,
+    progress: Progress,
 }
 
 impl Model for WatchCursor {
@@ -126,36 +126,36 @@ impl Model for WatchCursor {
 
     ghost Value = { Cursor };
 
-    ghost view = { λ c. cursor_of c.scope c.standing };
+    ghost view = { λ c. cursor_of c.scope c.progress };
 }
 
-/// The revision that a client was told before its watch has told anything: all up to the version that it names.
-fn told_of(initial: Initial, position: u64) -> u64
-    ensures { result ≡ told_of initial position }
+/// The revision that a client was sent before its watch has sent anything: all up to the version that it names.
+fn sent_of(initial: InitialEvents, position: u64) -> u64
+    ensures { result ≡ sent_of initial position }
 {
     match initial {
-        Initial::Changes => position,
-        Initial::Objects | Initial::NoObjects => 0,
+        InitialEvents::Changes => position,
+        InitialEvents::Objects | InitialEvents::NoneSelected => 0,
     }
 }
 
-fn left_of(initial: Initial) -> Option<Start>
-    ensures { left_at result ≡ left_of initial }
+fn left_of(initial: InitialEvents) -> Option<Start>
+    ensures { initial_left_of result ≡ left_of initial }
 {
     match initial {
-        Initial::Objects => Some(Start::First),
-        Initial::Changes | Initial::NoObjects => None,
+        InitialEvents::Objects => Some(Start::First),
+        InitialEvents::Changes | InitialEvents::NoneSelected => None,
     }
 }
 
 impl WatchCursor {
-    /// The cursor of a watch that has told nothing yet. Its time is not its own: who pumps it ends it.
+    /// The cursor of a watch that has sent nothing yet. Its time is not its own: who pumps it ends it.
     pub fn new(from: WatchFrom) -> WatchCursor
-        ensures { result ≡ begun (watch_from from) }
+        ensures { result ≡ first_cursor (watch_from from) }
     {
-        let standing = Standing {
+        let progress = Progress {
             position: from.position,
-            told: told_of(from.initial, from.position),
+            sent: sent_of(from.initial, from.position),
             left: left_of(from.initial),
         };
         let scope = Scope {
@@ -164,7 +164,7 @@ impl WatchCursor {
             selector: from.selector,
             bookmarks: from.bookmarks,
         };
-        WatchCursor { scope, standing }
+        WatchCursor { scope, progress }
     }
 
     /// The number of the type that it is of.
@@ -174,44 +174,44 @@ impl WatchCursor {
         self.scope.kind
     }
 
-    /// Whether a bookmark is due: the watch tells bookmarks, it stands past what the client was told, and no object is
-    /// left to be told.
+    /// Whether a bookmark is due: the watch sends bookmarks, it stands past what the client was sent, and no object is
+    /// left to be sent.
     pub fn is_bookmark_due(&self) -> bool
         ensures { result ≡ is_bookmark_due self.now }
     {
-        let standing = &self.standing;
-        self.scope.bookmarks && standing.left.is_none() && standing.told < standing.position
+        let progress = &self.progress;
+        self.scope.bookmarks && progress.left.is_none() && progress.sent < progress.position
     }
 
-    /// Up to where it has told; none while an object is left to be told.
-    pub fn reach(&self) -> Option<Reach>
-        ensures told { IfSome result (λ r. (r.position ≡ self.now.position) × (r.told ≡ self.now.told)) }
+    /// Up to where it has sent; none while an object is left to be sent.
+    pub fn resume_point(&self) -> Option<ResumePoint>
+        ensures sent { IfSome result (λ r. (r.position ≡ self.now.position) × (r.sent ≡ self.now.sent)) }
         ensures some { is_some result ≡ is_none_left self.now.left }
     {
-        let standing = &self.standing;
-        if standing.left.is_some() {
+        let progress = &self.progress;
+        if progress.left.is_some() {
             return None;
         }
-        Some(Reach {
-            position: standing.position,
-            told: standing.told,
+        Some(ResumePoint {
+            position: progress.position,
+            sent: progress.sent,
         })
     }
 
-    /// It has told up to here.
-    pub fn move_to(&mut self, reach: Reach)
-        ensures { self.new ≡ moved self.old reach.position reach.told self.old.left }
+    /// It has sent up to here.
+    pub fn move_to(&mut self, resume_point: ResumePoint)
+        ensures { self.new ≡ moved self.old resume_point.position resume_point.sent self.old.left }
     {
-        self.standing.position = reach.position;
-        self.standing.told = reach.told;
+        self.progress.position = resume_point.position;
+        self.progress.sent = resume_point.sent;
     }
 
-    /// A copy, where no object is left to be told; none of any other.
+    /// A copy, where no object is left to be sent; none of any other.
     pub fn copied(&self, alloc: Global) -> Result<Option<WatchCursor>, AllocError>
         ensures copied { IfOk result (λ o. IfSome o (λ c. c ≡ self.now)) }
         ensures some { IfOk result (λ o. is_some o ≡ is_none_left self.now.left) }
     {
-        if self.standing.left.is_some() {
+        if self.progress.left.is_some() {
             return Ok(None);
         }
         let scope = Scope {
@@ -220,20 +220,20 @@ impl WatchCursor {
             selector: self.scope.selector.try_copy(alloc)?,
             bookmarks: self.scope.bookmarks,
         };
-        let standing = Standing {
-            position: self.standing.position,
-            told: self.standing.told,
+        let progress = Progress {
+            position: self.progress.position,
+            sent: self.progress.sent,
             left: None,
         };
-        Ok(Some(WatchCursor { scope, standing }))
+        Ok(Some(WatchCursor { scope, progress }))
     }
 
-    /// Whether another tells the same at its next turn: both select the same, of one type and namespace, and have told
-    /// the same. One that has objects left to tell is like none.
+    /// Whether another sends the same at its next turn: both select the same, of one type and namespace, and have sent
+    /// the same. One that has objects left to send is like none.
     pub fn is_alike(&self, other: &WatchCursor) -> bool
         ensures { IsTrue result → self.now ≡ with_bookmarks other.now self.now.bookmarks }
     {
-        self.standing.is_alike(&other.standing) && self.scope.is_alike(&other.scope)
+        self.progress.is_alike(&other.progress) && self.scope.is_alike(&other.scope)
     }
 
     /// The next lines, at most `max`: of objects that are left, each as added, then of changes that are seen after
@@ -241,7 +241,7 @@ impl WatchCursor {
     /// pumped with the same recent labels read a text once for its labels.
     pub fn pump(
         &mut self,
-        labels: &mut RecentLabels,
+        labels: &mut LabelCache,
         store: &mut Store,
         max: usize,
     ) -> Result<Pumped, Fault>
@@ -249,24 +249,24 @@ impl WatchCursor {
         ensures err { OnErr result (self.new ≡ self.old) }
         ensures same { store.new ≡ store.old }
     {
-        let position = self.standing.position;
+        let position = self.progress.position;
         let compacted = store.compacted();
         if position < compacted {
             return Ok(expired(labels.allocator(), position, compacted)?);
         }
-        let (pumped, standing) = told(labels, store, &self.scope, &self.standing, max)?;
-        self.standing = standing;
+        let (pumped, progress) = sent(labels, store, &self.scope, &self.progress, max)?;
+        self.progress = progress;
         Ok(pumped)
     }
 
-    /// The line of a bookmark, where one is due: it tells the position. Where none is due it can't fail.
+    /// The line of a bookmark, where one is due: it sends the position. Where none is due it can't fail.
     pub fn bookmark(
         &mut self,
         alloc: Global,
         api_version: &str,
         kind: &str,
     ) -> Result<Option<String>, Fault>
-        ensures bookmarked { IfOk result (λ o. marking_of o self.new ≡ bookmarked api_version.now kind.now self.old) }
+        ensures bookmarked { IfOk result (λ o. bookmark_turn o self.new ≡ bookmarked api_version.now kind.now self.old) }
         ensures needs { is_bookmark_due self.old ≡ false → result ≡ Ok None }
         ensures stays { is_bookmark_due self.old ≡ false → self.new ≡ self.old }
         ensures err { OnErr result (self.new ≡ self.old) }
@@ -274,8 +274,8 @@ impl WatchCursor {
         if !self.is_bookmark_due() {
             return Ok(None);
         }
-        let line = bookmark_line(alloc, api_version, kind, self.standing.position)?;
-        self.standing.told = self.standing.position;
+        let line = bookmark_line(alloc, api_version, kind, self.progress.position)?;
+        self.progress.sent = self.progress.position;
         Ok(Some(line))
     }
 }

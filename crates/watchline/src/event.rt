@@ -1,9 +1,9 @@
-//! What a line of a watch tells: the event's type. A whole line stands in `lines`.
+//! What a line of a watch says: the event's type. A whole line stands in `lines`.
 
 ghost use Rattle.std.specs.Prelude.{◌≡◌};
 ghost use Rattle.watchline.specs.Lines.{type_text};
 
-/// What a line of a watch tells (WatchEvent v1 meta).
+/// What a line of a watch says (WatchEvent v1 meta).
 #[derive(Clone, Copy, Debug, PartialEq, Eq)]
 pub enum EventType {
     Added,

@@ -1,9 +1,9 @@
 //! Watches of objects, line by line (Kubernetes documentation, "Kubernetes API Concepts", "Efficient detection of
 //! changes"). The chunks around the lines are `requests`'.
 //!
-//! A watch tells first the objects that stood when it was opened, if it names no version, and then each change that
-//! its selection sees after its position. A pump tells the first so many of what is still to be told and moves the
-//! position; a watch that has missed forgotten changes ends with an error; a bookmark tells the position alone. A
+//! A watch sends first the objects that stood when it was opened, if it names no version, and then each change that
+//! its selection sees after its position. A pump sends the first so many of what is still to be sent and moves the
+//! position; a watch that has missed forgotten changes ends with an error; a bookmark sends the position alone. A
 //! call that fails leaves the cursor where it stood. Where two cursors stand alike, the lines of one are the other's,
 //! which then moves to where the first stands.
 //!
@@ -19,13 +19,13 @@ mod lines;
 mod objects;
 mod opening;
 mod seen;
+mod sending;
 mod status;
-mod telling;
 mod version;
 
-pub use cursor::{Pumped, Reach, WatchCursor};
+pub use cursor::{Pumped, ResumePoint, WatchCursor};
 pub use event::EventType;
-pub use laws::{positions_pass_nothing, turns_tell_in_order, watches_by_views};
+pub use laws::{positions_skip_nothing, turns_send_in_order, watches_by_views};
 pub use lines::line;
-pub use opening::{Initial, WatchFrom, start_watch};
+pub use opening::{InitialEvents, WatchFrom, start_watch};
 pub use status::{EXPIRED, GONE, expired_message, status_value};

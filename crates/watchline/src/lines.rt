@@ -1,4 +1,4 @@
-//! The bytes of a watch's lines. Which lines are due stands in `telling`, their types in `event`.
+//! The bytes of a watch's lines. Which lines are due stands in `sending`, their types in `event`.
 
 ghost use Rattle.std.specs.Prelude.{◌≡◌, IfOk, string_bytes};
 ghost use Rattle.serde_json.specs.View.{view};
@@ -6,7 +6,7 @@ ghost use Rattle.serde_json.specs.Written.{compact_text};
 ghost use Rattle.std.specs.Fmt.{decimal};
 ghost use Rattle.history.specs.Read.{entry_of};
 ghost use Rattle.watchline.specs.Lines.{added, bookmark_line, bookmark_value, deleted_line, error_line, line, line_of};
-ghost use Rattle.watchline.specs.Views.{change_seen};
+ghost use Rattle.watchline.specs.Views.{seen_change_of};
 
 use crate::event::EventType;
 use crate::seen::{Seen, SeenKind};
@@ -20,7 +20,7 @@ use std::alloc::{AllocError, Global};
 /// How many bytes of a line stand around its object's text at most.
 const FRAME: usize = 30;
 
-/// A line: what it tells, the text of its object, which is copied, and a line feed.
+/// A line: its type, the text of its object, which is copied, and a line feed.
 pub fn line(alloc: Global, event_type: EventType, object: &str) -> Result<String, AllocError>
     ensures { IfOk result (λ s. string_bytes s ≡ line event_type object.now) }
 {
@@ -49,7 +49,7 @@ fn deleted_line(alloc: Global, body: &str, revision: u64) -> Result<String, Faul
 
 /// The line of a change that is seen.
 pub(crate) fn change_line(alloc: Global, seen: &Seen) -> Result<String, Fault>
-    ensures { IfOk result (λ s. string_bytes s ≡ line_of (change_seen seen.now)) }
+    ensures { IfOk result (λ s. string_bytes s ≡ line_of (seen_change_of seen.now)) }
 {
     let body = seen.object.body.as_str();
     match seen.kind {
@@ -87,7 +87,7 @@ fn bookmark_text(
     Ok(value.to_string(alloc)?)
 }
 
-/// The line of a bookmark: all changes up to the revision were told.
+/// The line of a bookmark: all changes up to the revision were sent.
 pub(crate) fn bookmark_line(
     alloc: Global,
     api_version: &str,

@@ -1,12 +1,12 @@
-//! The objects that stood when a watch was opened and are still to be told. Changes are read in `batches`.
+//! The objects that stood when a watch was opened and are still to be sent. Changes are read in `batches`.
 
 ghost use Rattle.std.specs.Prelude.{◌≡◌, ◌≤◌, IfOk, Some, map, take};
 ghost use Rattle.history.specs.View.{IsView};
 ghost use Rattle.history.specs.Read.{entry_of};
 ghost use Rattle.watchline.specs.Watches.{from_view, left_past, objects_left};
-ghost use Rattle.watchline.specs.Views.{cursor_of, left_at, objects_at};
+ghost use Rattle.watchline.specs.Views.{cursor_of, initial_left_of, objects_at};
 
-use crate::cursor::{Scope, Standing};
+use crate::cursor::{Progress, Scope};
 use history::Entry;
 use lists::{Selected, Start, next_start, selected_page};
 use revstore::Store;
@@ -25,7 +25,7 @@ fn objects_from(
     requires sound { IsView store.old }
     requires low { store.old.compacted ≤ position }
     ensures found { IfOk result (λ p. map entry_of p.0.items ≡ take max (objects_at store.old scope.now position start.now)) }
-    ensures left { IfOk result (λ p. left_at p.1 ≡ left_past max (objects_at store.old scope.now position start.now) (left_at (Some start.now))) }
+    ensures left { IfOk result (λ p. initial_left_of p.1 ≡ left_past max (objects_at store.old scope.now position start.now) (initial_left_of (Some start.now))) }
     ensures same { store.new ≡ store.old }
 {
     let revision = position.min(store.current());
@@ -43,22 +43,22 @@ fn objects_from(
 }
 
 /// The objects that come first, at most so many, and where the others begin.
-pub(crate) fn objects_told(
+pub(crate) fn objects_sent(
     alloc: Global,
     store: &mut Store,
     scope: &Scope,
-    standing: &Standing,
+    progress: &Progress,
     max: usize,
 ) -> Result<(Vec<Entry>, Option<Start>), Fault>
     requires sound { IsView store.old }
-    requires low { store.old.compacted ≤ standing.now.position }
-    ensures found { IfOk result (λ p. map entry_of p.0.items ≡ take max (objects_left (from_view store.old) (cursor_of scope.now standing.now))) }
-    ensures left { IfOk result (λ p. left_at p.1
-        ≡ left_past max (objects_left (from_view store.old) (cursor_of scope.now standing.now)) (left_at standing.now.left)) }
+    requires low { store.old.compacted ≤ progress.now.position }
+    ensures found { IfOk result (λ p. map entry_of p.0.items ≡ take max (objects_left (from_view store.old) (cursor_of scope.now progress.now))) }
+    ensures left { IfOk result (λ p. initial_left_of p.1
+        ≡ left_past max (objects_left (from_view store.old) (cursor_of scope.now progress.now)) (initial_left_of progress.now.left)) }
     ensures same { store.new ≡ store.old }
 {
-    match &standing.left {
-        Some(start) => objects_from(alloc, store, scope, standing.position, start, max),
+    match &progress.left {
+        Some(start) => objects_from(alloc, store, scope, progress.position, start, max),
         None => Ok((Vec::new(alloc), None)),
     }
 }

@@ -1,7 +1,7 @@
-//! Opens a watch: from which revision, and what it tells first. Its position from then on stands in `cursor`.
+//! Opens a watch: from which revision, and what it sends first. Its position from then on stands in `cursor`.
 
 ghost use Rattle.std.specs.Prelude.{◌≡◌, IfOk};
-ghost use Rattle.lists.specs.Views.{Gives, collection_of};
+ghost use Rattle.lists.specs.Views.{Returns, collection_of};
 ghost use Rattle.params.specs.Views.{values_of, watch_view};
 ghost use Rattle.watchline.specs.Opening.{initial_in, started, starts};
 ghost use Rattle.watchline.specs.Watches.{from_view};
@@ -15,15 +15,15 @@ use revtable::Fault;
 use selector::Selector;
 use std::alloc::Global;
 
-/// What a watch tells first.
+/// What a watch sends first.
 #[derive(Clone, Copy, Debug, PartialEq, Eq)]
-pub enum Initial {
+pub enum InitialEvents {
     /// It names a version: the changes after it alone.
     Changes,
     /// It names none, and objects of it stand: each as added.
     Objects,
     /// It names none, and no object of it stands.
-    NoObjects,
+    NoneSelected,
 }
 
 /// What a watch begins from.
@@ -34,10 +34,10 @@ pub struct WatchFrom {
     /// None over all namespaces.
     pub namespace: Option<String>,
     pub selector: Selector,
-    /// The revision after which changes are told.
+    /// The revision after which changes are sent.
     pub position: u64,
-    pub initial: Initial,
-    /// Whether it tells bookmarks.
+    pub initial: InitialEvents,
+    /// Whether it sends bookmarks.
     pub bookmarks: bool,
     /// In seconds; 0 is none.
     pub timeout: u64,
@@ -49,7 +49,7 @@ fn initial_in(
     store: &mut Store,
     of: Collection<'_>,
     selector: &Selector,
-) -> Result<Initial, Fault>
+) -> Result<InitialEvents, Fault>
     ensures initial { IfOk result (λ i. i ≡ initial_in (from_view store.old) (collection_of of.entry).kind (collection_of of.entry).namespace selector.now) }
     ensures same { store.new ≡ store.old }
 {
@@ -60,21 +60,21 @@ fn initial_in(
     };
     let first = selected_page(alloc, store, selected, &Start::First, 1)?;
     if first.found.is_empty() {
-        Ok(Initial::NoObjects)
+        Ok(InitialEvents::NoneSelected)
     } else {
-        Ok(Initial::Objects)
+        Ok(InitialEvents::Objects)
     }
 }
 
-/// The revision that a watch begins at, where it names this version, and what it tells first.
+/// The revision that a watch begins at, where it names this version, and what it sends first.
 fn starts(
     alloc: Global,
     store: &mut Store,
     of: Collection<'_>,
     version: Option<u64>,
     selector: &Selector,
-) -> Result<(u64, Initial), ListFault>
-    ensures starts { Gives (λ p. p) result (starts (from_view store.old) version
+) -> Result<(u64, InitialEvents), ListFault>
+    ensures starts { Returns (λ p. p) result (starts (from_view store.old) version
         (initial_in (from_view store.old) (collection_of of.entry).kind (collection_of of.entry).namespace selector.now)) }
     ensures same { store.new ≡ store.old }
 {
@@ -84,7 +84,7 @@ fn starts(
             if version < compacted {
                 return Err(ListFault::Refused(Refusal::Expired(version, compacted)));
             }
-            Ok((version, Initial::Changes))
+            Ok((version, InitialEvents::Changes))
         }
         _ => {
             let current = store.current();
@@ -101,7 +101,7 @@ pub fn start_watch(
     params: Params,
     watch: Watch,
 ) -> Result<WatchFrom, ListFault>
-    ensures started { Gives watch_from result (started (from_view store.old) (collection_of of.entry).kind (collection_of of.entry).namespace (values_of params) (watch_view watch)) }
+    ensures started { Returns watch_from result (started (from_view store.old) (collection_of of.entry).kind (collection_of of.entry).namespace (values_of params) (watch_view watch)) }
     ensures same { store.new ≡ store.old }
 {
     let (position, initial) = starts(alloc, store, of, params.version, &params.selector)?;

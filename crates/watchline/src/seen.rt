@@ -4,11 +4,11 @@ ghost use Rattle.std.specs.Prelude.{◌≡◌, ◌-◌, ◌<◌, ◌≤◌, ◌+
 ghost use Rattle.history.specs.Read.{change_of, key_of, object_of};
 ghost use Rattle.history.specs.Seen.{reached, seen_by};
 ghost use Rattle.history.specs.View.{state_in};
-ghost use Rattle.watchline.specs.Batches.{AreBetween, if_labelled, seen_each, seen_labelled};
-ghost use Rattle.watchline.specs.Views.{change_seen, kind_seen, seen_list};
+ghost use Rattle.watchline.specs.BatchViews.{AreBetween, if_labelled, seen_each, seen_labelled};
+ghost use Rattle.watchline.specs.Views.{seen_change_of, kind_seen, seen_list};
 
 use history::{Change, Key, Object};
-use lists::RecentLabels;
+use lists::LabelCache;
 use revstore::Store;
 use revtable::Fault;
 use selector::Selector;
@@ -30,7 +30,7 @@ pub(crate) struct Seen {
 }
 
 fn seen_as(kind: SeenKind, key: Key, revision: u64, body: String) -> Seen
-    ensures { change_seen result ≡ record { kind = kind_seen kind; key = key_of key; object = record { revision = revision; body = string_bytes body } } }
+    ensures { seen_change_of result ≡ record { kind = kind_seen kind; key = key_of key; object = record { revision = revision; body = string_bytes body } } }
 {
     Seen {
         kind,
@@ -57,7 +57,7 @@ fn seen_by(revision: u64, key: Key, before: Option<String>, after: Option<String
 
 /// The body of an object, where its labels are selected.
 fn if_labelled(
-    labels: &mut RecentLabels,
+    labels: &mut LabelCache,
     selector: &Selector,
     object: Option<Object>,
 ) -> Result<Option<String>, Fault>
@@ -85,7 +85,7 @@ fn object_after(revision: u64, body: Option<String>) -> Option<Object>
 
 /// What is seen of a change of the type and namespace, if anything.
 fn seen_of(
-    labels: &mut RecentLabels,
+    labels: &mut LabelCache,
     store: &mut Store,
     selector: &Selector,
     change: Change,
@@ -104,7 +104,7 @@ fn seen_of(
 
 /// Keeps what is seen of a change.
 fn push_seen(
-    labels: &mut RecentLabels,
+    labels: &mut LabelCache,
     store: &mut Store,
     selector: &Selector,
     found: &mut Vec<Seen>,
@@ -112,8 +112,8 @@ fn push_seen(
 ) -> Result<(), Fault>
     requires above { store.old.compacted < change.revision }
     requires known { change.revision ≤ store.old.current }
-    ensures found { OnOk result (map change_seen found.new.items
-        ≡ map change_seen found.old.items ++ seen_labelled selector.now (state_in store.old (change.revision - 1)) (change_of change)) }
+    ensures found { OnOk result (map seen_change_of found.new.items
+        ≡ map seen_change_of found.old.items ++ seen_labelled selector.now (state_in store.old (change.revision - 1)) (change_of change)) }
     ensures same { store.new ≡ store.old }
 {
     let Some(seen) = seen_of(labels, store, selector, change)? else {
@@ -125,13 +125,13 @@ fn push_seen(
 
 /// What is seen of these changes of the type and namespace, one after the other.
 pub(crate) fn seen_each(
-    labels: &mut RecentLabels,
+    labels: &mut LabelCache,
     store: &mut Store,
     selector: &Selector,
     changes: Vec<Change>,
 ) -> Result<Vec<Seen>, Fault>
     requires between { AreBetween store.old.compacted store.old.current (map change_of changes.items) }
-    ensures seen { IfOk result (λ v. map change_seen v.items ≡ seen_each selector.now store.old (map change_of changes.items)) }
+    ensures seen { IfOk result (λ v. map seen_change_of v.items ≡ seen_each selector.now store.old (map change_of changes.items)) }
     ensures same { store.new ≡ store.old }
 {
     let mut found = Vec::new(labels.allocator());
@@ -143,7 +143,7 @@ pub(crate) fn seen_each(
 
 /// The revision of the last of these, or `from` where there is none.
 pub(crate) fn reached(from: u64, changes: &[Seen]) -> u64
-    ensures { result ≡ reached from (map change_seen changes.now) }
+    ensures { result ≡ reached from (map seen_change_of changes.now) }
 {
     match changes.last() {
         Some(last) => last.object.revision,

@@ -1,4 +1,4 @@
-//! A failure's Status, and the one that ends a watch. The refusals of calls, which are told by such a Status too, stand in
+//! A failure's Status, and the one that ends a watch. The refusals of calls, which are reported by such a Status too, stand in
 //! the crate `verbs`.
 
 ghost use Rattle.std.specs.Prelude.{◌≡◌, IfOk, string_bytes};
@@ -16,7 +16,7 @@ pub const GONE: u16 = 410;
 /// The reason where changes were forgotten (Kubernetes API Concepts, "410 Gone responses").
 pub const EXPIRED: &str = "Expired";
 
-/// The Status object that tells a failure (Kubernetes API conventions, "Response Status Kind").
+/// The Status object that reports a failure (Kubernetes API conventions, "Response Status Kind").
 pub fn status_value(
     alloc: Global,
     code: u16,

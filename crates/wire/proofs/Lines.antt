@@ -8,17 +8,17 @@ use Rattle.std.specs.Prelude.{◌==◌, ◌&&◌, codes}
 use Rattle.std.specs.Char.{is_ascii_digit}
 use Rattle.std.specs.List.{All, flat_map, list_all}
 use Rattle.httparse.specs.Grammar.{AllPass, is_token_byte, is_value_byte, LineEnd, crlf, lf, print_end, print_blank, print_version, Field, print_field, IsField}
-use Rattle.wire.specs.declared.place.Place.TheVariants.{Leading, Inside, Fed, FedCr}
-use Rattle.wire.specs.declared.place.Place.{Place}
+use Rattle.wire.specs.declared.place.ScanState.TheVariants.{Leading, Inside, Fed, FedCr}
+use Rattle.wire.specs.declared.place.ScanState.{ScanState}
 use Rattle.wire.specs.Heads.{end_from, end_or, head_end, place_after}
 
 -- bytes of a head that don't end it
-abbrev pub Goes : Place → List ℕ → Place → Type 0
+abbrev pub Goes : ScanState → List ℕ → ScanState → Type 0
 Goes p [] q = p ≡ q
-Goes p (b ∷ bytes) q = (m : Place) × (place_after p b ≡ Some m) × Goes m bytes q
+Goes p (b ∷ bytes) q = (m : ScanState) × (place_after p b ≡ Some m) × Goes m bytes q
 
-pub goes_append : (p m q : Place) (xs ys : List ℕ) → Goes p xs m → Goes m ys q → Goes p (xs ++ ys) q
-goes_append p m q [] ys a b = subst (λ (r : Place). Goes r ys q) (sym a) b
+pub goes_append : (p m q : ScanState) (xs ys : List ℕ) → Goes p xs m → Goes m ys q → Goes p (xs ++ ys) q
+goes_append p m q [] ys a b = subst (λ (r : ScanState). Goes r ys q) (sym a) b
 goes_append p m q (x ∷ xs) ys a b = (a.0, a.1, goes_append a.0 m q xs ys a.2 b)
 
 -- a byte that is part of a line
@@ -37,7 +37,7 @@ all_in_line test lf_fails cr_fails (b ∷ bytes) pass =
     All-cons IsInLine b bytes (in_line test lf_fails cr_fails b (All-head (λ v. IsTrue (test v)) b bytes pass))
     (all_in_line test lf_fails cr_fails bytes (All-tail (λ v. IsTrue (test v)) b bytes pass))
 
-goes_inside : (p : Place) (b : ℕ) → IsInLine b → place_after p b ≡ Some Inside
+goes_inside : (p : ScanState) (b : ℕ) → IsInLine b → place_after p b ≡ Some Inside
 goes_inside Leading b is = go (b == 13) (b == 10) is.1 is.0
   where
     go : (s t : Bool) → s ≡ false → t ≡ false → cond s (Some Leading) (cond t (Some Leading) (Some Inside)) ≡ Some Inside
@@ -66,7 +66,7 @@ stays_inside [] all = refl
 stays_inside (b ∷ bytes) all = (Inside, goes_inside Inside b (All-head IsInLine b bytes all), stays_inside bytes (All-tail IsInLine b bytes all))
 
 -- a text with a byte or more
-pub goes_in : (p : Place) (bytes : List ℕ) → 0 < length bytes → All IsInLine bytes → Goes p bytes Inside
+pub goes_in : (p : ScanState) (bytes : List ℕ) → 0 < length bytes → All IsInLine bytes → Goes p bytes Inside
 goes_in p [] some all = absurd (omega (arith, some))
 goes_in p (b ∷ bytes) some all = (Inside, goes_inside p b (All-head IsInLine b bytes all), stays_inside bytes (All-tail IsInLine b bytes all))
 
@@ -83,7 +83,7 @@ blank_lines [] = refl
 blank_lines (e ∷ es) = goes_append Leading Leading Leading (print_end e) (print_blank es) (blank_line e) (blank_lines es)
 
 -- a line after a line or after nothing
-pub line_goes : (p : Place) (text : List ℕ) (e : LineEnd) → 0 < length text → All IsInLine text → Goes p (text ++ print_end e) Fed
+pub line_goes : (p : ScanState) (text : List ℕ) (e : LineEnd) → 0 < length text → All IsInLine text → Goes p (text ++ print_end e) Fed
 line_goes p text e some all = goes_append p Inside Fed text (print_end e) (goes_in p text some all) (line_ends e)
 
 pub token_in_line : (bytes : List ℕ) → AllPass is_token_byte bytes → All IsInLine bytes
@@ -127,7 +127,7 @@ version_in_line minor low =
 -- the bytes end the head with a line feed, and not before
 pub record EndsAtLast (bytes : List ℕ) : Type 0 where
   pub seen : List ℕ
-  pub place : Place
+  pub place : ScanState
   pub is : bytes ≡ seen ++ 10 ∷ []
   pub goes : Goes Leading seen place
   pub ends : place_after place 10 ≡ None
@@ -144,28 +144,28 @@ last_end before lf goes = record { seen = before; place = Fed; is = refl; goes =
 
 -- ---- where the head ends
 
-goes_through : (p q : Place) (n : ℕ) (bytes more : List ℕ) → Goes p bytes q → end_from p n (bytes ++ more) ≡ end_from q (n + length bytes) more
-goes_through p q n [] more goes = ap₂ (λ (r : Place) (k : ℕ). end_from r k more) goes (omega arith)
+goes_through : (p q : ScanState) (n : ℕ) (bytes more : List ℕ) → Goes p bytes q → end_from p n (bytes ++ more) ≡ end_from q (n + length bytes) more
+goes_through p q n [] more goes = ap₂ (λ (r : ScanState) (k : ℕ). end_from r k more) goes (omega arith)
 goes_through p q n (b ∷ bytes) more goes =
-    ap (λ (o : Option Place). end_or (n + 1) o (λ r. end_from r (n + 1) (bytes ++ more))) goes.1
+    ap (λ (o : Option ScanState). end_or (n + 1) o (λ r. end_from r (n + 1) (bytes ++ more))) goes.1
     ∙ goes_through goes.0 q (n + 1) bytes more goes.2
     ∙ ap (λ (k : ℕ). end_from q k more) (omega arith)
 
--- a front of bytes that don't end it
-front_goes : (p q : Place) (n k : ℕ) (bytes : List ℕ) → Goes p bytes q → end_from p n (take k bytes) ≡ None
-front_goes p q n zero bytes goes = refl
-front_goes p q n (suc k) [] goes = refl
-front_goes p q n (suc k) (b ∷ bytes) goes =
-    ap (λ (o : Option Place). end_or (n + 1) o (λ r. end_from r (n + 1) (take k bytes))) goes.1 ∙ front_goes goes.0 q (n + 1) k bytes goes.2
+-- a prefix of bytes that don't end it
+prefix_goes : (p q : ScanState) (n k : ℕ) (bytes : List ℕ) → Goes p bytes q → end_from p n (take k bytes) ≡ None
+prefix_goes p q n zero bytes goes = refl
+prefix_goes p q n (suc k) [] goes = refl
+prefix_goes p q n (suc k) (b ∷ bytes) goes =
+    ap (λ (o : Option ScanState). end_or (n + 1) o (λ r. end_from r (n + 1) (take k bytes))) goes.1 ∙ prefix_goes goes.0 q (n + 1) k bytes goes.2
 
--- no front of it is one
+-- no prefix of it is one
 pub unended : (k : ℕ) (bytes more : List ℕ) → EndsAtLast bytes → k < length bytes → head_end (take k (bytes ++ more)) ≡ None
 unended k bytes more e short =
     let long : length bytes ≡ length e.seen + 1 = ap (λ (xs : List ℕ). length xs) e.is ∙ length-append e.seen (10 ∷ []) in
     ap (λ (xs : List ℕ). head_end (take k (xs ++ more))) e.is
     ∙ ap (λ (xs : List ℕ). head_end (take k xs)) (append_assoc e.seen (10 ∷ []) more)
     ∙ ap head_end (take-append-le k e.seen (10 ∷ more) (omega (arith, long, short)))
-    ∙ front_goes Leading e.place 0 k e.seen e.goes
+    ∙ prefix_goes Leading e.place 0 k e.seen e.goes
 
 -- whatever bytes follow
 pub ends_at : (bytes more : List ℕ) → EndsAtLast bytes → head_end (bytes ++ more) ≡ Some (length bytes)
@@ -174,5 +174,5 @@ ends_at bytes more e =
     ap (λ (xs : List ℕ). head_end (xs ++ more)) e.is
     ∙ ap head_end (append_assoc e.seen (10 ∷ []) more)
     ∙ goes_through Leading e.place 0 e.seen (10 ∷ more) e.goes
-    ∙ ap (λ (o : Option Place). end_or (0 + length e.seen + 1) o (λ r. end_from r (0 + length e.seen + 1) more)) e.ends
+    ∙ ap (λ (o : Option ScanState). end_or (0 + length e.seen + 1) o (λ r. end_from r (0 + length e.seen + 1) more)) e.ends
     ∙ ap (λ (k : ℕ). Some k) (omega (arith, long))

@@ -18,17 +18,17 @@ pub none_left : {T E : Type 0} (P : T → Type 0) (Q : E → Type 0) (r : Result
 none_left P Q (Ok x) a b is keeps = absurd is
 none_left P Q (Err e) a b is keeps = Consumes-kept a a b [] (Consumes-nil a) keeps
 
--- ---- a front of the bytes
+-- ---- a prefix of the bytes
 
--- what a writer got of the rest comes behind the front that it has
-pub front_grows : (a b c : Option (List ℕ)) (bytes rest : List ℕ) (count n : ℕ) → count ≤ length bytes → rest ≡ take (length bytes - count) (drop count bytes) → n ≤ length rest
+-- what a writer got of the rest comes behind the prefix that it has
+pub prefix_grows : (a b c : Option (List ℕ)) (bytes rest : List ℕ) (count n : ℕ) → count ≤ length bytes → rest ≡ take (length bytes - count) (drop count bytes) → n ≤ length rest
     → Appends a b (take count bytes) → Appends b c (take n rest) → (count + n ≤ length bytes) × Appends a c (take (count + n) bytes)
-front_grows a b c bytes rest count n in_bytes is in_rest before written =
+prefix_grows a b c bytes rest count n in_bytes is in_rest before written =
     let left : rest ≡ drop count bytes = is ∙ take_rest bytes count in
     let fits : n ≤ length bytes - count = subst (λ k. n ≤ k) (ap length left ∙ length-drop count bytes) in_rest in
     let joined : take (count + n) bytes ≡ take count bytes ++ take n rest = take-add count n bytes ∙ ap (λ l. take count bytes ++ take n l) (sym left) in
     (omega (arith, in_bytes, fits), subst (Appends a c) (sym joined) (Appends-trans a b c (take count bytes) (take n rest) before written))
 
--- a front, and the rest behind it
-pub front_of : (a b : Option (List ℕ)) (bytes : List ℕ) (n : ℕ) → Appends a b (take n bytes) → (told : List ℕ) × (rest : List ℕ) × (bytes ≡ told ++ rest) × Appends a b told
-front_of a b bytes n written = (take n bytes, drop n bytes, sym (take-append-drop n bytes), written)
+-- a prefix, and the rest behind it
+pub prefix_of : (a b : Option (List ℕ)) (bytes : List ℕ) (n : ℕ) → Appends a b (take n bytes) → (emitted : List ℕ) × (rest : List ℕ) × (bytes ≡ emitted ++ rest) × Appends a b emitted
+prefix_of a b bytes n written = (take n bytes, drop n bytes, sym (take-append-drop n bytes), written)

@@ -1,8 +1,8 @@
 -- The head of a message, at either end (RFC 9112, sections 2.1, 2.2 and 5): its limits, where it ends, and its fields by their names.
 use Rattle.std.specs.Prelude.{ℕ, ◌+◌, ◌==◌, Bool, if◌then◌else◌, List, [], ◌∷◌, Option, Some, None, codes}
 use Rattle.std.specs.Str.{str_eq_ignore_ascii_case}
-use Rattle.wire.specs.declared.place.Place.{Place}
-use Rattle.wire.specs.declared.place.Place.TheVariants.{Leading, Inside, Fed, FedCr}
+use Rattle.wire.specs.declared.place.ScanState.{ScanState}
+use Rattle.wire.specs.declared.place.ScanState.TheVariants.{Leading, Inside, Fed, FedCr}
 
 -- the end of a line
 abbrev pub crlf : List ℕ
@@ -18,19 +18,19 @@ max_fields = 64
 -- ---- where a head ends: its first empty line
 
 -- where a head stands after one byte more; none where it ends: at the first LF that is followed by LF or by CR LF, after the leading CR and LF bytes
-abbrev pub place_after : Place → ℕ → Option Place
+abbrev pub place_after : ScanState → ℕ → Option ScanState
 place_after Leading b = if b == 13 then Some Leading else if b == 10 then Some Leading else Some Inside
 place_after Inside b = if b == 10 then Some Fed else Some Inside
 place_after Fed b = if b == 10 then None else if b == 13 then Some FedCr else Some Inside
 place_after FedCr b = if b == 10 then None else Some Inside
 
 -- n bytes where it has ended with them, and else by where they stand
-abbrev pub end_or : ℕ → Option Place → (Place → Option ℕ) → Option ℕ
+abbrev pub end_or : ℕ → Option ScanState → (ScanState → Option ℕ) → Option ℕ
 end_or n None later = Some n
 end_or n (Some p) later = later p
 
 -- how many bytes the head has, of which n stand before these and lead to this place; none where these don't end it
-abbrev pub end_from : Place → ℕ → List ℕ → Option ℕ
+abbrev pub end_from : ScanState → ℕ → List ℕ → Option ℕ
 end_from p n [] = None
 end_from p n (b ∷ bytes) = end_or (n + 1) (place_after p b) (λ q. end_from q (n + 1) bytes)
 

@@ -3,7 +3,7 @@
 //! `specs/` also how chunks are printed. What a request says is `requests`', what a reply says `wireclient`'s.
 //!
 //! Promises: each byte that left a reader is in the piece, in order, also where memory is refused. What a writer got is
-//! a front of the bytes, and all of them where no write failed.
+//! a prefix of the bytes, and all of them where no write failed.
 //! Stands on `httparse` for where a head's fields stand.
 #![tactic(auto)]
 
@@ -17,6 +17,6 @@ mod writing;
 pub use field::{MAX_FIELDS, has_name, is_content_length, is_transfer_encoding};
 pub use head_end::{MAX_HEAD, place_after};
 pub use length::{decimal_value, is_length};
-pub use place::Place;
+pub use place::ScanState;
 pub use reading::{PIECE, read_piece};
-pub use writing::{write_front, write_whole};
+pub use writing::{write_prefix, write_whole};

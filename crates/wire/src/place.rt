@@ -2,7 +2,7 @@
 
 /// Where the bytes of a head stand, while more of it is to come.
 #[derive(Clone, Copy, Debug, PartialEq, Eq)]
-pub enum Place {
+pub enum ScanState {
     /// Before the first line.
     Leading,
     /// In a line.

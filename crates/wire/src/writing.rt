@@ -8,9 +8,9 @@ use std::io::{ErrorKind, Write};
 
 /// Writes these bytes, in as many writes as it takes: how many of them the writer got, which are the first, and why it
 /// got no more. An interrupted write is tried again; a writer that takes no byte takes no more.
-pub fn write_front<W: Write>(writer: &mut W, bytes: &[u8]) -> (usize, io::Result<()>)
+pub fn write_prefix<W: Write>(writer: &mut W, bytes: &[u8]) -> (usize, io::Result<()>)
     ensures bound { result.0 ≤ length bytes.now }
-    ensures front { Appends (W.contents writer.old) (W.contents writer.new) (take result.0 bytes.now) }
+    ensures prefix { Appends (W.contents writer.old) (W.contents writer.new) (take result.0 bytes.now) }
     ensures all { OnOk result.1 (result.0 ≡ length bytes.now) }
 {
     let mut count = 0;
@@ -29,10 +29,10 @@ pub fn write_front<W: Write>(writer: &mut W, bytes: &[u8]) -> (usize, io::Result
     (count, Err(io::Error::from(ErrorKind::WriteZero)))
 }
 
-/// Writes all of these bytes. After an error the writer has a front of them.
+/// Writes all of these bytes. After an error the writer has a prefix of them.
 pub fn write_whole<W: Write>(writer: &mut W, bytes: &[u8]) -> io::Result<()>
-    ensures front { (told : List ℕ) × (rest : List ℕ) × (bytes.now ≡ told ++ rest) × Appends (W.contents writer.old) (W.contents writer.new) told }
+    ensures prefix { (emitted : List ℕ) × (rest : List ℕ) × (bytes.now ≡ emitted ++ rest) × Appends (W.contents writer.old) (W.contents writer.new) emitted }
     ensures all { OnOk result (Appends (W.contents writer.old) (W.contents writer.new) bytes.now) }
 {
-    write_front(writer, bytes).1
+    write_prefix(writer, bytes).1
 }

@@ -11,11 +11,11 @@ use Rattle.http.specs.StatusCode.{IsStatusCode}
 use Rattle.httparse.specs.Grammar.{AllPass, is_value_byte, trim_ows}
 use Rattle.wire.specs.Lengths.{length_in}
 use Rattle.requests.specs.ReplyBytes.{phrase_of, reply}
-use Rattle.wireclient.proofs.Fronts.{closed_holds}
+use Rattle.wireclient.proofs.Prefixes.{closed_holds}
 use Rattle.wireclient.specs.Reads.{Items, framed_by_length, max_body}
-use Rattle.wireclient.specs.Reply.{Told, by_length, end, head, malformed, whole}
+use Rattle.wireclient.specs.Reply.{ReplyItem, by_length, end, head, malformed, whole}
 use Rattle.wire_laws.specs.Printed.{IsAllowed}
-use Rattle.wire_laws.specs.Replied.{reply_told}
+use Rattle.wire_laws.specs.Replied.{reply_sent}
 use Rattle.wire_laws.proofs.Fields.{decimal_digits, digit_is_no_blank, digit_is_value, is_no_blank, unblank_trimmed}
 use Rattle.wire_laws.proofs.PrintedReplies.{HasHead, Reader, has_head, head_read, head_refused, head_text, reply_read, three_digits}
 use Rattle.wire_laws.proofs.Statuses.{phrase_passes, phrase_short}
@@ -56,16 +56,16 @@ decimal_few n = onto_few 64 n []
 
 -- ---- a reply
 
--- its status, its body and the end; or a bad byte alone, where the body is too long; or, where even its length is too long, a strict front in
+-- its status, its body and the end; or a bad byte alone, where the body is too long; or, where even its length is too long, a strict prefix in
 -- place of the body
-abbrev pub IsToldOf : ℕ → List ℕ → List Told → Type 0
-IsToldOf code body items = (items ≡ reply_told code body) ⊎ ((k : ℕ) × (k < length body) × (items ≡ head code ∷ whole (take k body) ∷ end ∷ []))
+abbrev pub IsSentOf : ℕ → List ℕ → List ReplyItem → Type 0
+IsSentOf code body items = (items ≡ reply_sent code body) ⊎ ((k : ℕ) × (k < length body) × (items ≡ head code ∷ whole (take k body) ∷ end ∷ []))
 
 abbrev pub IsRead : ℕ → Option (List ℕ) → List ℕ → Type 0
-IsRead code allow body = (items : List Told) × Items (reply code allow body) items × IsToldOf code body items
+IsRead code allow body = (items : List ReplyItem) × Items (reply code allow body) items × IsSentOf code body items
 
-long_told : (code : ℕ) (body : List ℕ) → max_body < length body → malformed ∷ [] ≡ reply_told code body
-long_told code body long = go (nat_le (length body) max_body) (λ short. leb-true (length body) max_body short)
+long_sent : (code : ℕ) (body : List ℕ) → max_body < length body → malformed ∷ [] ≡ reply_sent code body
+long_sent code body long = go (nat_le (length body) max_body) (λ short. leb-true (length body) max_body short)
   where
     go : (b : Bool) → (b ≡ true → length body ≤ max_body) → malformed ∷ [] ≡ (if b then head code ∷ whole body ∷ end ∷ [] else malformed ∷ [])
     go true short = let few = short refl in absurd (omega (arith, few, long))
@@ -104,21 +104,21 @@ module _ (reader : Reader) (code : ℕ) (allow : Option (List ℕ)) (body : List
       parts k = append_assoc text (take k body) (drop k body) ∙ ap (λ (l : List ℕ). text ++ l) (take-append-drop k body)
 
       go : (framed_by_length (length_in count) ≡ None) ⊎ ((k : ℕ) × (k ≤ max_body) × (framed_by_length (length_in count) ≡ Some (by_length k))) → IsRead code allow body
-      go (inl none) = (malformed ∷ [], head_refused reader.none (decimal code) (phrase_of code) allow count body has trims none, inl (long_told code body (omega (arith, long))))
+      go (inl none) = (malformed ∷ [], head_refused reader.none (decimal code) (phrase_of code) allow count body has trims none, inl (long_sent code body (omega (arith, long))))
       go (inr (k, short, framed)) =
           let within : k ≤ length body = omega (arith, short, long) in
           let same : length (take k body) ≡ k = length-take-le k body within in
           let counts : framed_by_length (length_in count) ≡ Some (by_length (length (take k body))) = framed ∙ ap (λ (j : ℕ). Some (by_length j)) (sym same) in
           let value : digits_value 10 (decimal code) ≡ code = (decimal_is_IsNumeral code low).1 in
-          let items : List Told = head code ∷ whole (take k body) ∷ end ∷ [] in
-          let front : Items (text ++ take k body) items =
+          let items : List ReplyItem = head code ∷ whole (take k body) ∷ end ∷ [] in
+          let prefix : Items (text ++ take k body) items =
           subst (λ (n : ℕ). Items (text ++ take k body) (head n ∷ whole (take k body) ∷ end ∷ [])) value (head_read reader.reply (decimal code) (phrase_of code) allow count (take k body) has trims counts) in
-          (items, subst (λ (l : List ℕ). Items l items) (parts k) (closed_holds (text ++ take k body) (drop k body) items front refl), inr (k, omega (arith, short, long), refl))
+          (items, subst (λ (l : List ℕ). Items l items) (parts k) (closed_holds (text ++ take k body) (drop k body) items prefix refl), inr (k, omega (arith, short, long), refl))
 
   -- whatever its length is
   pub any_reply_read : IsRead code allow body
   any_reply_read = go (nat_lt (length body) (2 ^ 64)) (λ wide. ltb-true (length body) (2 ^ 64) wide) (λ long. ltb-false (length body) (2 ^ 64) long)
     where
       go : (b : Bool) → (b ≡ true → length body < 2 ^ 64) → (b ≡ false → 2 ^ 64 ≤ length body) → IsRead code allow body
-      go true wide long = (reply_told code body, reply_read reader code allow body is allowed (wide refl), inl refl)
+      go true wide long = (reply_sent code body, reply_read reader code allow body is allowed (wide refl), inl refl)
       go false wide long = long_read (long refl)

@@ -8,7 +8,7 @@ use Rattle.wire.specs.Chunks.{Chunk, IsChunk, chunk_of, print_chunk, print_chunk
 use Rattle.wire.specs.Lengths.{IsSize}
 use Rattle.wire.proofs.Sizes.{size_read}
 use Rattle.requests.specs.ReplyBytes.{chunk, chunks, end_bytes, last_chunk}
-use Rattle.wireclient.specs.Lines.{IsLine, print_lines, with_feed}
+use Rattle.wireclient.specs.LineLaws.{IsLine, print_lines, with_feed}
 use Rattle.wire_laws.specs.Watched.{joined}
 
 pub last_size : IsSize (codes "0") 0

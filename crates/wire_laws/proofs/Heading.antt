@@ -3,7 +3,7 @@ use Rattle.std.proofs.Common.{◌≡◌, ℕ, List, ◌∷◌, ◌++◌, refl, s
 use Rattle.std.proofs.lemmas.List.Elements.{All-cons}
 use Rattle.std.specs.List.{All, flat_map}
 use Rattle.httparse.specs.Grammar.{AllPass, is_uri_byte, print_blank, print_end, print_field, print_version, RequestHead, IsRequestHead, print_request}
-use Rattle.wire.specs.declared.place.Place.TheVariants.{Leading, Inside, Fed}
+use Rattle.wire.specs.declared.place.ScanState.TheVariants.{Leading, Inside, Fed}
 use Rattle.wire.proofs.Lines.{EndsAtLast, Goes, IsInLine, all_in_line, blank_lines, fields_go, goes_append, goes_in, last_end, line_ends, stays_inside, token_in_line, version_in_line}
 
 uri_in_line : (bytes : List ℕ) → AllPass is_uri_byte bytes → All IsInLine bytes

@@ -3,6 +3,8 @@ pub mod BegunAnswers
 pub mod Asking
 pub mod Fields
 pub mod Following
+pub mod HeadEnds
+pub mod MalformedBytes
 pub mod Heading
 pub mod LineTexts
 pub mod Listings
@@ -15,6 +17,10 @@ pub mod Statuses
 pub mod Chunking
 pub mod PrintedWatches
 pub mod Silence
+pub mod WatchPieces
+pub mod WatchTurns
 pub mod Watching
 pub mod Written
 pub mod TurnTexts
+pub mod LastElements
+pub mod OwnedLeaves

@@ -6,7 +6,7 @@ use Rattle.watchline.specs.declared.event.EventType.{EventType}
 use Rattle.watchline.specs.declared.event.EventType.TheVariants as event
 use Rattle.watchline.specs.Lines.{line, type_text}
 use Rattle.line_laws.specs.Shown.{shown}
-use Rattle.wireclient.specs.Lines.{HasNoFeed, with_feed}
+use Rattle.wireclient.specs.LineLaws.{HasNoFeed, with_feed}
 
 abbrev has_feed : List ℕ → Bool
 has_feed text = list_any (λ b. b == 10) text

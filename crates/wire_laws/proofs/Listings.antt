@@ -16,8 +16,8 @@ use Rattle.lists.specs.Body.{Collection, list_text}
 use Rattle.lists.specs.Lists.{list_of, page_of, text_at}
 use Rattle.lists.specs.Revision.{revision_of}
 use Rattle.decoder.specs.Wanted.{Wanted}
-use Rattle.watchline.specs.declared.opening.Initial.{Initial}
-use Rattle.watchline.specs.declared.opening.Initial.TheVariants.{Changes}
+use Rattle.watchline.specs.declared.opening.InitialEvents.{InitialEvents}
+use Rattle.watchline.specs.declared.opening.InitialEvents.TheVariants.{Changes}
 use Rattle.watchline.specs.Opening.{from_parts, initial_in, opened_by, starts}
 use Rattle.watchline.specs.Watches.{from_history}
 use Rattle.line_laws.specs.Listed.{AreKept, IsKept, IsReadAsPage, IsWanted}
@@ -25,8 +25,8 @@ use Rattle.api_request.specs.declared.method.Method.TheVariants.{Get}
 use Rattle.api_request.specs.Calls.{Call, Plan, of_all, of_namespace, scope_of}
 use Rattle.verbs.specs.Machine.{IsMachine, IsSomeTextAt, identity_of}
 use Rattle.api_validation.specs.Parameters.{parameters_validated}
-use Rattle.verbs.specs.Promise.{TextsSayStates}
-use Rattle.verbs.specs.Step.{collection_of, list_answered, list_refusal, list_validated, page_shown, plan_for, planned, refused, shown_by, validated_at, validated_by, validated_over, watch_shown}
+use Rattle.verbs.specs.PromiseLaws.{TextsSayStates}
+use Rattle.verbs.specs.Step.{collection_of, list_answered, list_refusal, list_plan, page_shown, plan_for, planned, refused, shown_by, dispatch_type, dispatch_scope, dispatch_call, watch_shown}
 use Rattle.api_request.specs.Validated.{Validated, and_then}
 use Rattle.wire_laws.specs.Listings.{IsListing, IsWatching, listed_by, page_plan, watch_after, watch_plan}
 
@@ -64,14 +64,14 @@ page_text t call values revision m = list_text (listed_by t call) revision (page
 module _ (types : List ServedShape) (m : History) (call : Call) (t : ServedShape) (values : Values) (served : slice_get types call.target.kind ≡ Some t) (gets : call.target.method ≡ Get)
     (unnamed : call.target.name ≡ None) (says : parameters_validated asked.List call.query ≡ Ok values) where
   by_namespace : (namespace : Option (List ℕ))
-      → validated_at (Some t) (scope_of namespace None call.target.status) (from_history m) call ≡ list_validated t (from_history m) call.target.kind namespace call.query
-  by_namespace None = ap (λ how. validated_by of_all how t (from_history m) call) gets
-  by_namespace (Some namespace) = ap (λ how. validated_by (of_namespace namespace) how t (from_history m) call) gets
+      → dispatch_type (Some t) (scope_of namespace None call.target.status) (from_history m) call ≡ list_plan t (from_history m) call.target.kind namespace call.query
+  by_namespace None = ap (λ how. dispatch_scope of_all how t (from_history m) call) gets
+  by_namespace (Some namespace) = ap (λ how. dispatch_scope (of_namespace namespace) how t (from_history m) call) gets
 
-  validated_is : validated_over types (from_history m) call ≡ list_answered (shown_by (from_history m) (listed_by t call) values values.watch)
+  validated_is : dispatch_call types (from_history m) call ≡ list_answered (shown_by (from_history m) (listed_by t call) values values.watch)
   validated_is =
-      ap (λ o. validated_at o (scope_of call.target.namespace call.target.name call.target.status) (from_history m) call) served
-      ∙ ap (λ name. validated_at (Some t) (scope_of call.target.namespace name call.target.status) (from_history m) call) unnamed
+      ap (λ o. dispatch_type o (scope_of call.target.namespace call.target.name call.target.status) (from_history m) call) served
+      ∙ ap (λ name. dispatch_type (Some t) (scope_of call.target.namespace name call.target.status) (from_history m) call) unnamed
       ∙ by_namespace call.target.namespace
       ∙ ap (λ (v : Validated Values). and_then v (λ said. list_answered (shown_by (from_history m) (listed_by t call) said said.watch))) says
 
@@ -96,13 +96,13 @@ module _ (types : List ServedShape) (m : History) (call : Call) (t : ServedShape
 -- ---- of a watch
 
 -- by whether the version is 0, and whether changes after it were forgotten
-abbrev plan_by : Call → Values → Watch → ℕ → History → Initial → Bool → Bool → Plan
+abbrev plan_by : Call → Values → Watch → ℕ → History → InitialEvents → Bool → Bool → Plan
 plan_by call values watch v m objects any forgotten =
     plan_for (list_answered (watch_shown (opened_by (from_parts call.target.kind call.target.namespace values.selector watch)
     (if any then Ok (m.current, objects) else (if forgotten then Err (Expired v m.compacted) else Ok (v, Changes))))))
 
 module _ (types : List ServedShape) (m : History) (call : Call) (t : ServedShape) (values : Values) (watch : Watch) (v : ℕ) (is : IsWatching types call t values watch v) (some : 0 < v) where
-  abbrev objects : Initial
+  abbrev objects : InitialEvents
   objects = initial_in (from_history m) call.target.kind call.target.namespace values.selector
 
   watch_planned : planned types m call ≡ plan_by call values watch v m objects false (nat_lt v m.compacted)

@@ -10,9 +10,9 @@ use Rattle.wire.specs.Chunks.{IsChunk, chunk_of, print_chunk}
 use Rattle.wire.specs.Heads.{crlf}
 use Rattle.wire.specs.Lengths.{hexadecimal}
 use Rattle.requests.specs.ReplyBytes.{chunk, chunks, end_bytes}
-use Rattle.wireclient.specs.Lines.{BeginsTooLong, HasNoFeed, IsLine, print_lines, with_feed}
-use Rattle.wireclient.specs.Reply.{Told, line, malformed, max_line}
-use Rattle.wire_laws.specs.Watched.{lines_told}
+use Rattle.wireclient.specs.LineLaws.{BeginsTooLong, HasNoFeed, IsLine, print_lines, with_feed}
+use Rattle.wireclient.specs.Reply.{ReplyItem, line, malformed, max_line}
+use Rattle.wire_laws.specs.Watched.{lines_sent}
 use Rattle.wire_laws.proofs.Chunking.{are_chunks, chunks_of, contents, fed_long, is_chunk, open_chunks, turn_then}
 
 -- ---- the first that is too long
@@ -48,28 +48,28 @@ lines_or_long (text ∷ texts) all = by_length (nat_lt (length text) max_line) r
 
 -- ---- what is told
 
-first_told : (t : Bool) (xs ys : List Told) → t ≡ true → (if t then xs else ys) ≡ xs
-first_told true xs ys is = refl
-first_told false xs ys is = absurd cc
+first_sent : (t : Bool) (xs ys : List ReplyItem) → t ≡ true → (if t then xs else ys) ≡ xs
+first_sent true xs ys is = refl
+first_sent false xs ys is = absurd cc
 
-second_told : (t : Bool) (xs ys : List Told) → t ≡ false → (if t then xs else ys) ≡ ys
-second_told true xs ys is = absurd cc
-second_told false xs ys is = refl
+second_sent : (t : Bool) (xs ys : List ReplyItem) → t ≡ false → (if t then xs else ys) ≡ ys
+second_sent true xs ys is = absurd cc
+second_sent false xs ys is = refl
 
-line_told : (text : List ℕ) (texts : List (List ℕ)) (last : List Told) → IsLine text → lines_told (text ∷ texts) last ≡ line text ∷ lines_told texts last
-line_told text texts last is = first_told (nat_lt (length text) max_line) (line text ∷ lines_told texts last) (malformed ∷ []) (lt-ltb (length text) max_line is.fits)
+line_sent : (text : List ℕ) (texts : List (List ℕ)) (last : List ReplyItem) → IsLine text → lines_sent (text ∷ texts) last ≡ line text ∷ lines_sent texts last
+line_sent text texts last is = first_sent (nat_lt (length text) max_line) (line text ∷ lines_sent texts last) (malformed ∷ []) (lt-ltb (length text) max_line is.fits)
 
-pub short_told : (texts : List (List ℕ)) (last : List Told) → All IsLine texts → lines_told texts last ≡ map line texts ++ last
-short_told [] last all = refl
-short_told (text ∷ texts) last all =
-    line_told text texts last (All-head IsLine text texts all) ∙ ap (λ (told : List Told). line text ∷ told) (short_told texts last (All-tail IsLine text texts all))
+pub short_sent : (texts : List (List ℕ)) (last : List ReplyItem) → All IsLine texts → lines_sent texts last ≡ map line texts ++ last
+short_sent [] last all = refl
+short_sent (text ∷ texts) last all =
+    line_sent text texts last (All-head IsLine text texts all) ∙ ap (λ (sent : List ReplyItem). line text ∷ sent) (short_sent texts last (All-tail IsLine text texts all))
 
-pub long_told : (before : List (List ℕ)) (long : List ℕ) (after : List (List ℕ)) (last : List Told) → All IsLine before → max_line ≤ length long
-    → lines_told (before ++ long ∷ after) last ≡ map line before ++ malformed ∷ []
-long_told [] long after last all over = second_told (nat_lt (length long) max_line) (line long ∷ lines_told after last) (malformed ∷ []) (le-ltb (length long) max_line over)
-long_told (text ∷ before) long after last all over =
-    line_told text (before ++ long ∷ after) last (All-head IsLine text before all)
-    ∙ ap (λ (told : List Told). line text ∷ told) (long_told before long after last (All-tail IsLine text before all) over)
+pub long_sent : (before : List (List ℕ)) (long : List ℕ) (after : List (List ℕ)) (last : List ReplyItem) → All IsLine before → max_line ≤ length long
+    → lines_sent (before ++ long ∷ after) last ≡ map line before ++ malformed ∷ []
+long_sent [] long after last all over = second_sent (nat_lt (length long) max_line) (line long ∷ lines_sent after last) (malformed ∷ []) (le-ltb (length long) max_line over)
+long_sent (text ∷ before) long after last all over =
+    line_sent text (before ++ long ∷ after) last (All-head IsLine text before all)
+    ∙ ap (λ (sent : List ReplyItem). line text ∷ sent) (long_sent before long after last (All-tail IsLine text before all) over)
 
 -- ---- its chunk among the others
 

@@ -20,7 +20,7 @@ use Rattle.requests.specs.ReplyBytes.{phrase_of, allow_field, reply}
 use Rattle.wireclient.specs.Reads.{Items, framed_by_length, framing_of, max_body}
 use Rattle.wireclient.specs.Reply.{by_length, end, head, malformed, whole}
 use Rattle.wire_laws.specs.Printed.{IsAllowed}
-use Rattle.wire_laws.specs.Replied.{reply_told}
+use Rattle.wire_laws.specs.Replied.{reply_sent}
 use Rattle.wire_laws.proofs.Fields.{field, decimal_digits, decimal_is_value, is_field, trimmed}
 use Rattle.wire_laws.proofs.Statuses.{phrase_passes, phrase_short}
 
@@ -184,7 +184,7 @@ pub head_refused : ReadsNone → (code phrase : List ℕ) (allow : Option (List 
 head_refused none code phrase allow count body has trim counts =
     subst (λ (xs : List ℕ). Items (xs ++ body) (malformed ∷ [])) has.same (none (head_of code phrase allow count) body has.is has.fits (framed allow count trim ∙ counts))
 
-pub reply_read : Reader → (code : ℕ) (allow : Option (List ℕ)) (body : List ℕ) → IsStatusCode code → IsAllowed allow → length body < 2 ^ 64 → Items (reply code allow body) (reply_told code body)
+pub reply_read : Reader → (code : ℕ) (allow : Option (List ℕ)) (body : List ℕ) → IsStatusCode code → IsAllowed allow → length body < 2 ^ 64 → Items (reply code allow body) (reply_sent code body)
 reply_read reader code allow body is allowed wide =
     let low : code < 2 ^ 64 = let top = is.1 in omega (arith, top) in
     let twenty : length (decimal (length body)) ≤ 20 = length-decimal-le 20 (length body) (omega arith) (omega (arith, wide)) wide in
@@ -200,14 +200,14 @@ reply_read reader code allow body is allowed wide =
     by_length false long has value =
         head_refused reader.none (decimal code) (phrase_of code) allow (decimal (length body)) body has (trimmed (length body) wide) (reader.uncounted (length body) (leb-false (length body) max_body long) wide)
 
-pub short_told : (code : ℕ) (body : List ℕ) → length body ≤ max_body → reply_told code body ≡ head code ∷ whole body ∷ end ∷ []
-short_told code body short = by_length (nat_le (length body) max_body) (le-leb (length body) max_body short)
+pub short_sent : (code : ℕ) (body : List ℕ) → length body ≤ max_body → reply_sent code body ≡ head code ∷ whole body ∷ end ∷ []
+short_sent code body short = by_length (nat_le (length body) max_body) (le-leb (length body) max_body short)
   where
     by_length : (t : Bool) → t ≡ true → (if t then head code ∷ whole body ∷ end ∷ [] else malformed ∷ []) ≡ head code ∷ whole body ∷ end ∷ []
     by_length true is = refl
     by_length false is = absurd cc
 
 -- of a body that isn't too long
-pub short_read : ((code : ℕ) (allow : Option (List ℕ)) (body : List ℕ) → IsStatusCode code → IsAllowed allow → length body < 2 ^ 64 → Items (reply code allow body) (reply_told code body))
+pub short_read : ((code : ℕ) (allow : Option (List ℕ)) (body : List ℕ) → IsStatusCode code → IsAllowed allow → length body < 2 ^ 64 → Items (reply code allow body) (reply_sent code body))
     → (code : ℕ) (allow : Option (List ℕ)) (body : List ℕ) → IsStatusCode code → IsAllowed allow → length body ≤ max_body → Items (reply code allow body) (head code ∷ whole body ∷ end ∷ [])
-short_read reads code allow body is allowed short = subst (Items (reply code allow body)) (short_told code body short) (reads code allow body is allowed (omega (arith, short)))
+short_read reads code allow body is allowed short = subst (Items (reply code allow body)) (short_sent code body short) (reads code allow body is allowed (omega (arith, short)))

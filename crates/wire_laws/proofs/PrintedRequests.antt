@@ -128,9 +128,9 @@ is_head method request_target body is = record {
 
 -- ---- what it says
 
-passed : (t : Bool) (front : Decision (Request × List ℕ)) → t ≡ true → (if not t then refuse bad_head else front) ≡ front
-passed true front is = refl
-passed false front is = absurd cc
+passed : (t : Bool) (prefix : Decision (Request × List ℕ)) → t ≡ true → (if not t then refuse bad_head else prefix) ≡ prefix
+passed true prefix is = refl
+passed false prefix is = absurd cc
 
 validated_so : (method request_target : List ℕ) (body : Option (List ℕ × List ℕ)) (rest : List ℕ) → starts_with nat_eq request_target (codes "/") ≡ true → IsMedia body
     → validated_head (head_of method request_target body) rest ≡ accepted (said_of method request_target body, rest)
@@ -147,23 +147,23 @@ ends_so method request_target body is =
     let long : length (request method request_target body) ≡ length (print_request (head_of method request_target body)) + length (body_bytes body) = ap (λ (xs : List ℕ). length xs) (whole method request_target body) ∙ length-append (print_request (head_of method request_target body)) (body_bytes body) in
     let fits = is.fits in
     let room : length (print_request (head_of method request_target body)) + (max_head - length (print_request (head_of method request_target body))) ≡ max_head = omega (arith, long, fits) in
-    let front : take max_head (request method request_target body) ≡ print_request (head_of method request_target body) ++ take (max_head - length (print_request (head_of method request_target body))) (body_bytes body) =
+    let prefix : take max_head (request method request_target body) ≡ print_request (head_of method request_target body) ++ take (max_head - length (print_request (head_of method request_target body))) (body_bytes body) =
     ap (λ (n : ℕ). take n (request method request_target body)) (sym room) ∙ ap (take _) (whole method request_target body) ∙ take-append-add (print_request (head_of method request_target body)) (body_bytes body) (max_head - length (print_request (head_of method request_target body))) in
-    ap head_end front
+    ap head_end prefix
     ∙ ends_at (print_request (head_of method request_target body)) (take (max_head - length (print_request (head_of method request_target body))) (body_bytes body))
     (request_ends (head_of method request_target body) (is_head method request_target body is.parts))
 
 pub request_says : (method request_target : List ℕ) (body : Option (List ℕ × List ℕ)) → IsPrinted method request_target body → ReadsHead (request method request_target body) (accepted (said_of method request_target body, body_bytes body))
 request_says method request_target body is =
     let same = whole method request_target body in
-    let front : take (length (print_request (head_of method request_target body))) (request method request_target body) ≡ print_request (head_of method request_target body) ++ [] =
+    let prefix : take (length (print_request (head_of method request_target body))) (request method request_target body) ≡ print_request (head_of method request_target body) ++ [] =
     ap (take _) same ∙ take-append_seam (print_request (head_of method request_target body)) (body_bytes body) ∙ sym (append-nil _) in
     let rest : drop (length (print_request (head_of method request_target body))) (request method request_target body) ≡ body_bytes body =
     ap (drop _) same ∙ drop-append_seam (print_request (head_of method request_target body)) (body_bytes body) in
     let said : accepted (said_of method request_target body, body_bytes body) ≡ validated_head (head_of method request_target body) (drop (length (print_request (head_of method request_target body))) (request method request_target body)) =
     sym (ap (validated_head (head_of method request_target body)) rest ∙ validated_so method request_target body (body_bytes body) is.parts.path is.parts.media) in
     subst (λ (o : Option ℕ). ReadsHeadAt (request method request_target body) o (accepted (said_of method request_target body, body_bytes body))) (sym (ends_so method request_target body is))
-    (inl (head_of method request_target body, (is_head method request_target body is.parts, front), said))
+    (inl (head_of method request_target body, (is_head method request_target body is.parts, prefix), said))
 
 -- ---- a head that is too long
 

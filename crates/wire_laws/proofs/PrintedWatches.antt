@@ -17,13 +17,13 @@ use Rattle.wire.specs.Heads.{crlf, max_fields, max_head}
 use Rattle.wire.specs.Lengths.{IsSize, hexadecimal}
 use Rattle.wire.proofs.Lines.{passes_each}
 use Rattle.requests.specs.ReplyBytes.{chunks, phrase_of, watch_head}
-use Rattle.wireclient.specs.Lines.{BeginsTooLong, HasNoFeed, IsLine, print_lines, with_feed}
+use Rattle.wireclient.specs.LineLaws.{BeginsTooLong, HasNoFeed, IsLine, print_lines, with_feed}
 use Rattle.wireclient.specs.Reads.{Items, framing_of}
-use Rattle.wireclient.specs.Reply.{by_chunks, Told, end, head, line, malformed, max_line}
-use Rattle.wire_laws.specs.Watched.{end_told, joined, lines_told, told_of}
+use Rattle.wireclient.specs.Reply.{by_chunks, ReplyItem, end, head, line, malformed, max_line}
+use Rattle.wire_laws.specs.Watched.{end_sent, joined, lines_sent, sent_of}
 use Rattle.wire_laws.proofs.Chunking.{are_chunks, chunks_of, contents, ended_chunks, last_size, open_chunks, turns_joined}
 use Rattle.wire_laws.proofs.Fields.{decimal_digits, field, is_field}
-use Rattle.wire_laws.proofs.LongLines.{HasLong, begins_long, behind_size, lines_or_long, long_chunks, long_contents, long_told, short_told, with_chunks, with_size}
+use Rattle.wire_laws.proofs.LongLines.{HasLong, begins_long, behind_size, lines_or_long, long_chunks, long_contents, long_sent, short_sent, with_chunks, with_size}
 use Rattle.wire_laws.proofs.LongSizes.{hex_digits, hex_long}
 use Rattle.wire_laws.proofs.PrintedReplies.{is_connection, is_content_type, status_line, three_digits}
 use Rattle.wire_laws.proofs.Statuses.{phrase_passes, phrase_short}
@@ -110,17 +110,17 @@ pub record Reader : Type 0 where
   pub sized : ReadsSized
 
 -- the head of these digits and this phrase, and then chunks that are told so
-abbrev ReadsAs : List ℕ → List ℕ → List ℕ → List Told → Type 0
-ReadsAs code phrase bytes told = Items (head_text code phrase ++ bytes) (head (digits_value 10 code) ∷ told)
+abbrev ReadsAs : List ℕ → List ℕ → List ℕ → List ReplyItem → Type 0
+ReadsAs code phrase bytes sent = Items (head_text code phrase ++ bytes) (head (digits_value 10 code) ∷ sent)
 
 lines_read : Reader → (code phrase : List ℕ) (texts : List (List ℕ)) (has_ended : Bool) → HasHead code phrase → All IsLine texts
-    → ReadsAs code phrase (chunks (map with_feed texts) has_ended) (map line texts ++ end_told has_ended)
+    → ReadsAs code phrase (chunks (map with_feed texts) has_ended) (map line texts ++ end_sent has_ended)
 lines_read reader code phrase texts true has lines =
-    subst (λ (bytes : List ℕ). ReadsAs code phrase bytes (map line texts ++ end_told true)) (sym (ended_chunks texts))
-    (subst (λ (xs : List ℕ). Items (xs ++ print_chunks (chunks_of texts) (codes "0")) (head (digits_value 10 code) ∷ (map line texts ++ end_told true))) has.same
+    subst (λ (bytes : List ℕ). ReadsAs code phrase bytes (map line texts ++ end_sent true)) (sym (ended_chunks texts))
+    (subst (λ (xs : List ℕ). Items (xs ++ print_chunks (chunks_of texts) (codes "0")) (head (digits_value 10 code) ∷ (map line texts ++ end_sent true))) has.same
     (reader.ended (head_of code phrase) (chunks_of texts) (codes "0") texts has.is has.low (omega arith) framed (are_chunks texts lines) last_size lines (contents texts)))
 lines_read reader code phrase texts false has lines =
-    subst (λ (items : List Told). ReadsAs code phrase (chunks (map with_feed texts) false) items) (sym (append-nil (map line texts)))
+    subst (λ (items : List ReplyItem). ReadsAs code phrase (chunks (map with_feed texts) false) items) (sym (append-nil (map line texts)))
     (subst (λ (bytes : List ℕ). ReadsAs code phrase bytes (map line texts)) (sym (open_chunks texts))
     (subst (λ (xs : List ℕ). Items (xs ++ flat_map print_chunk (chunks_of texts)) (head (digits_value 10 code) ∷ map line texts)) has.same
     (reader.still (head_of code phrase) (chunks_of texts) texts [] has.is has.low (omega arith) framed (are_chunks texts lines) lines refl (omega arith) (contents texts ∙ sym (append-nil (print_lines texts))))))
@@ -142,27 +142,27 @@ long_read reader code phrase before long after has_ended has lines plain over = 
         (are_chunks before lines) lines (contents before) (hex_digits (length (with_feed long))) (hex_long (length (with_feed long)) (ltb-false (length (with_feed long)) 18446744073709551616 many))))
 
 texts_read : Reader → (code phrase : List ℕ) (texts : List (List ℕ)) (has_ended : Bool) → HasHead code phrase → All HasNoFeed texts
-    → ReadsAs code phrase (chunks (map with_feed texts) has_ended) (lines_told texts (end_told has_ended))
+    → ReadsAs code phrase (chunks (map with_feed texts) has_ended) (lines_sent texts (end_sent has_ended))
 texts_read reader code phrase texts has_ended has plain = by_lines (lines_or_long texts plain)
   where
-    by_lines : All IsLine texts ⊎ HasLong texts → ReadsAs code phrase (chunks (map with_feed texts) has_ended) (lines_told texts (end_told has_ended))
+    by_lines : All IsLine texts ⊎ HasLong texts → ReadsAs code phrase (chunks (map with_feed texts) has_ended) (lines_sent texts (end_sent has_ended))
     by_lines (inl lines) =
-        subst (λ (told : List Told). ReadsAs code phrase (chunks (map with_feed texts) has_ended) told) (sym (short_told texts (end_told has_ended) lines)) (lines_read reader code phrase texts has_ended has lines)
+        subst (λ (sent : List ReplyItem). ReadsAs code phrase (chunks (map with_feed texts) has_ended) sent) (sym (short_sent texts (end_sent has_ended) lines)) (lines_read reader code phrase texts has_ended has lines)
     by_lines (inr x) =
-        subst (λ (all : List (List ℕ)). ReadsAs code phrase (chunks (map with_feed all) has_ended) (lines_told all (end_told has_ended))) (sym x.are)
-        (subst (λ (told : List Told). ReadsAs code phrase (chunks (map with_feed (x.before ++ x.long ∷ x.after)) has_ended) told) (sym (long_told x.before x.long x.after (end_told has_ended) x.lines x.over))
+        subst (λ (all : List (List ℕ)). ReadsAs code phrase (chunks (map with_feed all) has_ended) (lines_sent all (end_sent has_ended))) (sym x.are)
+        (subst (λ (sent : List ReplyItem). ReadsAs code phrase (chunks (map with_feed (x.before ++ x.long ∷ x.after)) has_ended) sent) (sym (long_sent x.before x.long x.after (end_sent has_ended) x.lines x.over))
         (long_read reader code phrase x.before x.long x.after has_ended has x.lines x.plain x.over))
 
 pub watch_read : Reader → (code : ℕ) (texts : List (List ℕ)) (has_ended : Bool) → IsStatusCode code → All HasNoFeed texts
-    → Items (watch_head code ++ chunks (map with_feed texts) has_ended) (told_of code texts has_ended)
+    → Items (watch_head code ++ chunks (map with_feed texts) has_ended) (sent_of code texts has_ended)
 watch_read reader code texts has_ended is plain =
     let low : code < 2 ^ 64 = let top = is.1 in omega (arith, top) in
     let value : digits_value 10 (decimal code) ≡ code = (decimal_is_IsNumeral code low).1 in
     let has = has_head (decimal code) (phrase_of code) (three_digits code is, decimal_digits code low) (phrase_passes code) (phrase_short code) in
-    subst (λ (n : ℕ). Items (watch_head code ++ chunks (map with_feed texts) has_ended) (told_of n texts has_ended)) value (texts_read reader (decimal code) (phrase_of code) texts has_ended has plain)
+    subst (λ (n : ℕ). Items (watch_head code ++ chunks (map with_feed texts) has_ended) (sent_of n texts has_ended)) value (texts_read reader (decimal code) (phrase_of code) texts has_ended has plain)
 
-pub turns_read : ((code : ℕ) (texts : List (List ℕ)) (has_ended : Bool) → IsStatusCode code → All HasNoFeed texts → Items (watch_head code ++ chunks (map with_feed texts) has_ended) (told_of code texts has_ended))
+pub turns_read : ((code : ℕ) (texts : List (List ℕ)) (has_ended : Bool) → IsStatusCode code → All HasNoFeed texts → Items (watch_head code ++ chunks (map with_feed texts) has_ended) (sent_of code texts has_ended))
     → (code : ℕ) (turns : List (List (List ℕ))) (last : List (List ℕ)) (has_ended : Bool) → IsStatusCode code → All HasNoFeed (joined turns ++ last)
-    → Items (watch_head code ++ (flat_map (λ texts. chunks (map with_feed texts) false) turns ++ chunks (map with_feed last) has_ended)) (told_of code (joined turns ++ last) has_ended)
+    → Items (watch_head code ++ (flat_map (λ texts. chunks (map with_feed texts) false) turns ++ chunks (map with_feed last) has_ended)) (sent_of code (joined turns ++ last) has_ended)
 turns_read reads code turns last has_ended is plain =
-    subst (λ (bytes : List ℕ). Items (watch_head code ++ bytes) (told_of code (joined turns ++ last) has_ended)) (sym (turns_joined turns last has_ended)) (reads code (joined turns ++ last) has_ended is plain)
+    subst (λ (bytes : List ℕ). Items (watch_head code ++ bytes) (sent_of code (joined turns ++ last) has_ended)) (sym (turns_joined turns last has_ended)) (reads code (joined turns ++ last) has_ended is plain)

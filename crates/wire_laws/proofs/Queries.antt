@@ -11,7 +11,7 @@ use Rattle.form_urlencoded.proofs.FormLemmas.{IsBytePair, round_trip}
 use Rattle.params.specs.Query.{pair_in, pairs_in, text_of}
 use Rattle.requests.specs.Bodies.{path_of, query_of}
 use Rattle.requests.proofs.RequestTargets.{nothing_after, whole_before}
-use Rattle.lists.specs.Tokens.{IsTextPair}
+use Rattle.lists.specs.TokenLaws.{IsTextPair}
 use Rattle.wire_laws.specs.Printed.{is_question}
 
 abbrev asked : ℕ → Bool

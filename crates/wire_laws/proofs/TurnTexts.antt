@@ -12,18 +12,18 @@ use Rattle.objects.specs.ObjectText.{Identity, object_value}
 use Rattle.watchline.specs.declared.event.EventType.{EventType}
 use Rattle.watchline.specs.declared.event.EventType.TheVariants as event
 use Rattle.watchline.specs.Lines.{bookmark_value, error_line, expired_message, expired_value, line, line_of, text_shown, type_of}
-use Rattle.watchline.specs.Watches.{Cursor, bookmarked, coming, expiring, from_history, is_bookmark_due, telling}
+use Rattle.watchline.specs.Watches.{Cursor, bookmarked, coming, expiring, from_history, is_bookmark_due, sending}
 use Rattle.line_laws.specs.Shown.{shown, version_shown}
 use Rattle.line_laws.proofs.Feeds.{text_has_none}
 use Rattle.line_laws.proofs.Renumbered.{has_room}
 use Rattle.line_laws.proofs.Said.{bookmark_fits, expired_fits, shown_text}
-use Rattle.line_laws.proofs.Told.{marked_line as with_mark, unmarked}
+use Rattle.line_laws.proofs.Sent.{marked_line as with_mark, unmarked}
 use Rattle.line_laws.proofs.SeenBodies.{AllSeen, Leaves, Stays, all_coming, all_taken}
 use Rattle.api_validation.specs.Envelope.{api_version_of}
 use Rattle.verbs.specs.Machine.{AreUnicode, IsMachine, IsOfTypes, IsSomeTextAt, identity_of}
 use Rattle.verbs.specs.Watching.{bookmarked_as}
-use Rattle.httpedge.specs.Watches.{Watch, line_list, marked, pumped, ticked, turned}
-use Rattle.wireclient.specs.Lines.{HasNoFeed}
+use Rattle.httpedge.specs.Watches.{Watch, line_list, bookmark_turned, pumped, ticked, turned}
+use Rattle.wireclient.specs.LineLaws.{HasNoFeed}
 use Rattle.wire_laws.specs.TurnLines.{AreLines}
 use Rattle.wire_laws.proofs.LineTexts.{plain, with_its_feed}
 
@@ -36,49 +36,49 @@ one_more what text lines none others = (shown what text ∷ others.0, All-cons H
 -- ---- objects and changes
 
 -- its text is that of some object of a type, under the schema of its time, at a revision that there may be
-abbrev IsTold : List ServedShape → Object → Type 0
-IsTold types o = (k : Key) × (r : ℕ) × IsSomeTextAt types k r o.body
+abbrev IsSent : List ServedShape → Object → Type 0
+IsSent types o = (k : Key) × (r : ℕ) × IsSomeTextAt types k r o.body
 
-told_stays : (types : List ServedShape) → Stays (IsTold types) (λ r. Unit {0})
-told_stays types = record { holds = λ o r low told. told }
+sent_stays : (types : List ServedShape) → Stays (IsSent types) (λ r. Unit {0})
+sent_stays types = record { holds = λ o r low sent. sent }
 
-left_told : (types : List ServedShape) (k : Key) (r : ℕ) (body : Option (List ℕ)) → IfSome body (IsSomeTextAt types k r) → IfSome (object_by r body) (IsTold types)
-left_told types k r None is = tt
-left_told types k r (Some text) is = (k, r, is)
+left_sent : (types : List ServedShape) (k : Key) (r : ℕ) (body : Option (List ℕ)) → IfSome body (IsSomeTextAt types k r) → IfSome (object_by r body) (IsSent types)
+left_sent types k r None is = tt
+left_sent types k r (Some text) is = (k, r, is)
 
-changes_told : (types : List ServedShape) (cs : List Change) → AllByRecursion (IsOfTypes types) cs → AllByRecursion (Leaves (IsTold types) (λ r. Unit {0})) cs
-changes_told types [] are = tt
-changes_told types (c ∷ cs) are = ((tt, left_told types c.key c.revision c.body are.0), changes_told types cs are.1)
+changes_sent : (types : List ServedShape) (cs : List Change) → AllByRecursion (IsOfTypes types) cs → AllByRecursion (Leaves (IsSent types) (λ r. Unit {0})) cs
+changes_sent types [] are = tt
+changes_sent types (c ∷ cs) are = ((tt, left_sent types c.key c.revision c.body are.0), changes_sent types cs are.1)
 
-pub coming_told : (types : List ServedShape) (m : History) (w : Cursor) → IsMachine types m → AllSeen (IsTold types) (coming (from_history m) w)
-coming_told types m w is = all_coming (IsTold types) (λ r. Unit {0}) (told_stays types) m w (changes_told types m.changes is.texts)
+pub coming_sent : (types : List ServedShape) (m : History) (w : Cursor) → IsMachine types m → AllSeen (IsSent types) (coming (from_history m) w)
+coming_sent types m w is = all_coming (IsSent types) (λ r. Unit {0}) (sent_stays types) m w (changes_sent types m.changes is.texts)
 
-pub plain_text : (types : List ServedShape) (o : Object) → IsTold types o → (kind : SeenKind) → HasNoFeed (text_shown kind o)
+pub plain_text : (types : List ServedShape) (o : Object) → IsSent types o → (kind : SeenKind) → HasNoFeed (text_shown kind o)
 plain_text types o (k, r, text) kind =
     let of : Identity = identity_of text.t k in
     let version = version_shown kind r o.revision in
     let state : State = text.is_text.state in
     ap (list_any (λ b. b == 10)) (shown_text kind text.shape of r state o text.shaped text.is_text.says)
-    ∙ text_has_none (object_value text.shape of version state) (has_room text.shape of version state text.shaped.1 text.is_text.says.placed.0).spelled
+    ∙ text_has_none (object_value text.shape of version state) (has_room text.shape of version state text.shaped.1 text.is_text.says.well_typed.0).encodable
 
-told_lines : (types : List ServedShape) (xs : List SeenChange) → AllSeen (IsTold types) xs → AreLines (map line_of xs)
-told_lines types [] told = no_lines
-told_lines types (x ∷ xs) told = one_more (type_of x.kind) (text_shown x.kind x.object) (map line_of xs) (plain_text types x.object told.0 x.kind) (told_lines types xs told.1)
+sent_lines : (types : List ServedShape) (xs : List SeenChange) → AllSeen (IsSent types) xs → AreLines (map line_of xs)
+sent_lines types [] sent = no_lines
+sent_lines types (x ∷ xs) sent = one_more (type_of x.kind) (text_shown x.kind x.object) (map line_of xs) (plain_text types x.object sent.0 x.kind) (sent_lines types xs sent.1)
 
 -- ---- a turn at a pump
 
 expired_line : (position compacted : ℕ) → AreLines (error_line position compacted ∷ [])
 expired_line position compacted =
     let value = expired_value (expired_message position compacted) in
-    one_more event.Error (compact_text value) [] (text_has_none value (expired_fits (expired_message position compacted)).spelled) no_lines
+    one_more event.Error (compact_text value) [] (text_has_none value (expired_fits (expired_message position compacted)).encodable) no_lines
 
 pub pumped_lines : (types : List ServedShape) (m : History) (max : ℕ) (w : Watch) → IsMachine types m → AreLines (pumped m max w).lines
 pumped_lines types m max w is = by_test (nat_lt w.cursor.position m.compacted)
   where
-    by_test : (b : Bool) → AreLines (turned w (cond b (expiring (from_history m) w.cursor) (telling (from_history m) max w.cursor))).lines
+    by_test : (b : Bool) → AreLines (turned w (cond b (expiring (from_history m) w.cursor) (sending (from_history m) max w.cursor))).lines
     by_test true = expired_line w.cursor.position m.compacted
     by_test false =
-        told_lines types (take max (coming (from_history m) w.cursor)) (all_taken (λ (x : SeenChange). IsTold types x.object) max (coming (from_history m) w.cursor) (coming_told types m w.cursor is))
+        sent_lines types (take max (coming (from_history m) w.cursor)) (all_taken (λ (x : SeenChange). IsSent types x.object) max (coming (from_history m) w.cursor) (coming_sent types m w.cursor is))
 
 -- ---- a turn at a tick
 
@@ -89,13 +89,13 @@ marked_line api_version kind w = by_due (is_bookmark_due w)
     by_due true =
         let version = decimal w.position in
         let value = bookmark_value api_version kind version in
-        one_more event.Bookmark (compact_text value) [] (text_has_none value (bookmark_fits api_version kind version).spelled) no_lines
+        one_more event.Bookmark (compact_text value) [] (text_has_none value (bookmark_fits api_version kind version).encodable) no_lines
     by_due false = no_lines
 
 pub ticked_lines : (types : List ServedShape) (ms : ℕ) (w : Watch) → AreLines (ticked types ms w).lines
 ticked_lines types ms w = by_type (slice_get types w.cursor.kind)
   where
-    by_type : (o : Option ServedShape) → AreLines (marked ms w (bookmarked_as o w.cursor)).lines
+    by_type : (o : Option ServedShape) → AreLines (bookmark_turned ms w (bookmarked_as o w.cursor)).lines
     by_type None = no_lines
     by_type (Some t) = marked_line (api_version_of t) t.kind w.cursor
 

@@ -21,21 +21,21 @@ use Rattle.api_request.specs.declared.reason.Reason.{Reason}
 use Rattle.api_request.specs.declared.reason.Reason.TheVariants as reason
 use Rattle.api_request.specs.declared.resource.Resource.{Resource}
 use Rattle.api_request.specs.declared.resource.Resource.TheVariants as resource
-use Rattle.api_request.specs.Admit.{Place, admitted, allowed, not_admitted, method_admitted, method_named, method_served, place_admitted, place_of, accepts_media, target_at}
+use Rattle.api_request.specs.Admit.{RequestInfo, admitted, allowed, not_admitted, method_admitted, method_named, method_served, place_admitted, place_of, accepts_media, target_at}
 use Rattle.api_request.specs.Calls.{Answer, Call, Denied, Plan, Scope, Target, of_all, of_namespace, of_object, scope_of}
 use Rattle.lists.specs.declared.refusal.Refusal.{Refusal as ListRefusal}
 use Rattle.lists.specs.Body.{Collection}
 use Rattle.lists.specs.Lists.{list_of}
 use Rattle.params.specs.Values.{Values, Watch}
 use Rattle.watchline.specs.Opening.{WatchFrom, started}
-use Rattle.watchline.specs.Watches.{Source, from_history}
+use Rattle.watchline.specs.Watches.{HistoryWindow, from_history}
 use Rattle.params.specs.declared.params.Asked.TheVariants as asked
 use Rattle.api_validation.specs.Envelope.{api_version_of}
 use Rattle.api_request.specs.Validated as validated
 use Rattle.api_request.specs.Validated.{Validated}
 use Rattle.history.specs.History.{History, Key, Object}
-use Rattle.verbs.specs.Machine.{no_state, state_of_live, state_said}
-use Rattle.api_validation.specs.Naming.{marks_validated_by, names_validated}
+use Rattle.verbs.specs.Machine.{no_state, state_of_existing, decoded_state}
+use Rattle.api_validation.specs.Naming.{labels_and_annotations_validated_by, names_validated}
 use Rattle.api_validation.specs.Options.{options_validated}
 use Rattle.api_validation.specs.Parameters.{parameters_validated}
 use Rattle.api_request.specs.Reasons.{code_of}
@@ -180,12 +180,12 @@ at_readable bytes None head is =
 at_readable bytes (Some n) head (inl (h, reads, is)) = subst (λ (x : HeadDecision). Readable (Request × List ℕ) x) (sym is) (validated_readable h (drop n bytes))
 at_readable bytes (Some n) head (inr (none, is)) = subst (λ (x : HeadDecision). Readable (Request × List ℕ) x) (sym is) (no bad_head)
 
-method_readable : (place : Place) (m : Option Method) (media : Option (List ℕ)) → ReadableResult Target (method_admitted place m media)
+method_readable : (place : RequestInfo) (m : Option Method) (media : Option (List ℕ)) → ReadableResult Target (method_admitted place m media)
 method_readable place None media = err _ (record { allow = allowed_readable place.resource; short = method_short })
 method_readable place (Some m) media =
     if_result (accepts_media m media) (Ok (target_at place m)) (not_admitted reason.UnsupportedMediaType (codes "media type not served") None) (ok (target_at place m)) (err _ media_readable)
 
-place_readable : (o : Option Place) (method : List ℕ) (media : Option (List ℕ)) → ReadableResult Target (place_admitted o method media)
+place_readable : (o : Option RequestInfo) (method : List ℕ) (media : Option (List ℕ)) → ReadableResult Target (place_admitted o method media)
 place_readable None method media = err _ no_path_readable
 place_readable (Some place) method media = method_readable place (method_served place.resource (method_named method)) media
 
@@ -268,7 +268,7 @@ if_fine : (b : Bool) (x y : Validated Plan) → IsFine x → IsFine y → IsFine
 if_fine true x y is other = is
 if_fine false x y is other = other
 
-stored_fine : (body : Data) (current : ℕ) (k : Key) (status : ℕ) → IsStatusCode status → IsFine (step.store_text body current k status)
+stored_fine : (body : Data) (current : ℕ) (k : Key) (status : ℕ) → IsStatusCode status → IsFine (step.plan_put_text body current k status)
 stored_fine body current k status is =
     let plan : Plan = record {
       answer = record { status = status; body = compact_text body; watch = None };
@@ -277,87 +277,87 @@ stored_fine body current k status is =
     let left : Unit {0} → Validated Plan = λ u. validated.and_then (step.revisions_left current) (λ v. Ok plan) in
     checked (size_validated body) left (λ u. checked (step.revisions_left current) (λ v. Ok plan) (λ v. record { is = is }))
 
-over_fine : (t : ServedShape) (current : ℕ) (k : Key) (o : Option Object) (s : State) → IsFine (step.store_unless_same t current k o s)
+over_fine : (t : ServedShape) (current : ℕ) (k : Key) (o : Option Object) (s : State) → IsFine (step.plan_put_unless_same t current k o s)
 over_fine t current k None s = stored_fine (step.printed t k (suc current) s) current k 201 (omega arith, omega arith)
 over_fine t current k (Some o) s =
-    if_fine (same_state s (state_said t.shape o.body)) (Ok (step.as_it_stands o)) (step.store_state t current k 200 s) (record { is = (omega arith, omega arith) })
+    if_fine (same_state s (decoded_state t.shape o.body)) (Ok (step.plan_without_change o)) (step.plan_put t current k 200 s) (record { is = (omega arith, omega arith) })
     (stored_fine (step.printed t k (suc current) s) current k 200 (omega arith, omega arith))
 
-applied_fine : (t : ServedShape) (current : ℕ) (k : Key) (live : Option Object) (intent : step.Intent) → IsFine (step.applied_over t current k live intent)
-applied_fine t current k live intent =
-    let owned = step.ownership_validated (api_version_of t) (state_of_live t live) (own_part intent.subresource intent.content) (step.manager_for apply_operation intent) intent.is_forced in
-    let stored : Unit {0} → Validated Plan = λ u. validated.and_then owned (step.store_unless_same t current k live) in
-    checked (step.there_for intent.subresource t k.name live) (λ u. validated.and_then (step.version_checked intent.version live) stored)
-    (λ u. checked (step.version_checked intent.version live) stored
-    (λ u. checked owned (step.store_unless_same t current k live) (λ s. over_fine t current k live s)))
+applied_fine : (t : ServedShape) (current : ℕ) (k : Key) (existing : Option Object) (intent : step.Intent) → IsFine (step.applied_over t current k existing intent)
+applied_fine t current k existing intent =
+    let owned = step.ownership_validated (api_version_of t) (state_of_existing t existing) (own_part intent.subresource intent.content) (step.manager_for apply_operation intent) intent.is_forced in
+    let stored : Unit {0} → Validated Plan = λ u. validated.and_then owned (step.plan_put_unless_same t current k existing) in
+    checked (step.require_object_of_status intent.subresource t k.name existing) (λ u. validated.and_then (step.version_checked intent.version existing) stored)
+    (λ u. checked (step.version_checked intent.version existing) stored
+    (λ u. checked owned (step.plan_put_unless_same t current k existing) (λ s. over_fine t current k existing s)))
 
 fine : (p : Plan) → IsStatusCode p.answer.status → IsFine (Ok p)
 fine p is = record { is = is }
 
-apply_fine : (by : Subresource) (t : ServedShape) (current : ℕ) (live : Option Object) (k : Key) (query : List ℕ) (body : Data) → IsFine (step.apply_validated by t current live k query body)
-apply_fine by t current live k query body =
+apply_fine : (by : Subresource) (t : ServedShape) (current : ℕ) (existing : Option Object) (k : Key) (query : List ℕ) (body : Data) → IsFine (step.apply_plan by t current existing k query body)
+apply_fine by t current existing k query body =
     checked (step.intent_of (step.at_path t k method.Patch by) asked.Apply query body)
-    (λ intent. validated.and_then (names_validated intent.subresource k.namespace k.name intent.rest) (λ u. step.applied_over t current k live intent))
-    (λ intent. checked (names_validated intent.subresource k.namespace k.name intent.rest) (λ u. step.applied_over t current k live intent)
-    (λ u. applied_fine t current k live intent))
+    (λ intent. validated.and_then (names_validated intent.subresource k.namespace k.name intent.rest) (λ u. step.applied_over t current k existing intent))
+    (λ intent. checked (names_validated intent.subresource k.namespace k.name intent.rest) (λ u. step.applied_over t current k existing intent)
+    (λ u. applied_fine t current k existing intent))
 
-get_fine : (t : ServedShape) (current : ℕ) (live : Option Object) (k : Key) (query : List ℕ) → IsFine (step.get_validated t current live k query)
-get_fine t current live k query =
+get_fine : (t : ServedShape) (current : ℕ) (existing : Option Object) (k : Key) (query : List ℕ) → IsFine (step.get_plan t current existing k query)
+get_fine t current existing k query =
     checked (parameters_validated asked.Get query)
-    (λ values. validated.and_then (step.there t k.name live) (λ o. validated.and_then (step.version_come values.version current) (λ u. Ok (step.as_it_stands o))))
-    (λ values. checked (step.there t k.name live) (λ o. validated.and_then (step.version_come values.version current) (λ u. Ok (step.as_it_stands o)))
-    (λ o. checked (step.version_come values.version current) (λ u. Ok (step.as_it_stands o)) (λ u. fine (step.as_it_stands o) (omega arith, omega arith))))
+    (λ values. validated.and_then (step.require_found t k.name existing) (λ o. validated.and_then (step.version_reached values.version current) (λ u. Ok (step.plan_without_change o))))
+    (λ values. checked (step.require_found t k.name existing) (λ o. validated.and_then (step.version_reached values.version current) (λ u. Ok (step.plan_without_change o)))
+    (λ o. checked (step.version_reached values.version current) (λ u. Ok (step.plan_without_change o)) (λ u. fine (step.plan_without_change o) (omega arith, omega arith))))
 
-created_fine : (t : ServedShape) (current : ℕ) (live : Option Object) (k : Key) (intent : step.Intent) → IsFine (step.created_as t current live k intent)
-created_fine t current live k intent =
+created_fine : (t : ServedShape) (current : ℕ) (existing : Option Object) (k : Key) (intent : step.Intent) → IsFine (step.created_as t current existing k intent)
+created_fine t current existing k intent =
     let new = step.updated_by intent no_state in
     checked (names_validated intent.subresource k.namespace k.name intent.rest)
-    (λ u. validated.and_then (step.not_there t k.name live) (λ v. step.store_state t current k 201 new))
-    (λ u. checked (step.not_there t k.name live) (λ v. step.store_state t current k 201 new)
+    (λ u. validated.and_then (step.require_absent t k.name existing) (λ v. step.plan_put t current k 201 new))
+    (λ u. checked (step.require_absent t k.name existing) (λ v. step.plan_put t current k 201 new)
     (λ v. stored_fine (step.printed t k (suc current) new) current k 201 (omega arith, omega arith)))
 
-create_fine : (t : ServedShape) (s : Source) (kind : ℕ) (namespace query : List ℕ) (body : Data) → IsFine (step.create_validated t s kind namespace query body)
+create_fine : (t : ServedShape) (s : HistoryWindow) (kind : ℕ) (namespace query : List ℕ) (body : Data) → IsFine (step.create_plan t s kind namespace query body)
 create_fine t s kind namespace query body =
     checked (step.creation_validated t kind namespace query body) (λ c. step.created_as t s.current (step.object_at s c.key) c.key c.intent)
     (λ c. created_fine t s.current (step.object_at s c.key) c.key c.intent)
 
-updated_fine : (t : ServedShape) (current : ℕ) (k : Key) (live : Option Object) (intent : step.Intent) → IsFine (step.updated_over t current k live intent)
-updated_fine t current k live intent =
-    checked (step.there t k.name live)
-    (λ o. validated.and_then (step.version_checked intent.version live) (λ u. step.store_unless_same t current k live (step.updated_by intent (state_said t.shape o.body))))
-    (λ o. checked (step.version_checked intent.version live) (λ u. step.store_unless_same t current k live (step.updated_by intent (state_said t.shape o.body)))
-    (λ u. over_fine t current k live (step.updated_by intent (state_said t.shape o.body))))
+updated_fine : (t : ServedShape) (current : ℕ) (k : Key) (existing : Option Object) (intent : step.Intent) → IsFine (step.updated_over t current k existing intent)
+updated_fine t current k existing intent =
+    checked (step.require_found t k.name existing)
+    (λ o. validated.and_then (step.version_checked intent.version existing) (λ u. step.plan_put_unless_same t current k existing (step.updated_by intent (decoded_state t.shape o.body))))
+    (λ o. checked (step.version_checked intent.version existing) (λ u. step.plan_put_unless_same t current k existing (step.updated_by intent (decoded_state t.shape o.body)))
+    (λ u. over_fine t current k existing (step.updated_by intent (decoded_state t.shape o.body))))
 
-update_fine : (by : Subresource) (t : ServedShape) (current : ℕ) (live : Option Object) (k : Key) (query : List ℕ) (body : Data) → IsFine (step.update_validated by t current live k query body)
-update_fine by t current live k query body =
+update_fine : (by : Subresource) (t : ServedShape) (current : ℕ) (existing : Option Object) (k : Key) (query : List ℕ) (body : Data) → IsFine (step.update_plan by t current existing k query body)
+update_fine by t current existing k query body =
     checked (step.intent_of (step.at_path t k method.Put by) asked.Put query body)
-    (λ intent. validated.and_then (marks_validated_by intent.subresource intent.rest) (λ u. step.updated_over t current k live intent))
-    (λ intent. checked (marks_validated_by intent.subresource intent.rest) (λ u. step.updated_over t current k live intent)
-    (λ u. updated_fine t current k live intent))
+    (λ intent. validated.and_then (labels_and_annotations_validated_by intent.subresource intent.rest) (λ u. step.updated_over t current k existing intent))
+    (λ intent. checked (labels_and_annotations_validated_by intent.subresource intent.rest) (λ u. step.updated_over t current k existing intent)
+    (λ u. updated_fine t current k existing intent))
 
-deleted_fine : (t : ServedShape) (current : ℕ) (k : Key) (live : Option Object) (version : Option ℕ) → IsFine (step.deleted_over t current k live version)
-deleted_fine t current k live version =
-    checked (step.there t k.name live)
-    (λ o. validated.and_then (step.version_checked version live) (λ u. validated.and_then (step.revisions_left current) (λ v. Ok (step.deleted t current k o))))
-    (λ o. checked (step.version_checked version live) (λ u. validated.and_then (step.revisions_left current) (λ v. Ok (step.deleted t current k o)))
+deleted_fine : (t : ServedShape) (current : ℕ) (k : Key) (existing : Option Object) (version : Option ℕ) → IsFine (step.deleted_over t current k existing version)
+deleted_fine t current k existing version =
+    checked (step.require_found t k.name existing)
+    (λ o. validated.and_then (step.version_checked version existing) (λ u. validated.and_then (step.revisions_left current) (λ v. Ok (step.deleted t current k o))))
+    (λ o. checked (step.version_checked version existing) (λ u. validated.and_then (step.revisions_left current) (λ v. Ok (step.deleted t current k o)))
     (λ u. checked (step.revisions_left current) (λ v. Ok (step.deleted t current k o)) (λ v. fine (step.deleted t current k o) (omega arith, omega arith))))
 
-delete_fine : (t : ServedShape) (current : ℕ) (live : Option Object) (k : Key) (query : List ℕ) (body : Option Data) → IsFine (step.delete_validated t current live k query body)
-delete_fine t current live k query body =
-    checked (options_validated body) (λ version. validated.and_then (parameters_validated asked.Delete query) (λ values. step.deleted_over t current k live version))
-    (λ version. checked (parameters_validated asked.Delete query) (λ values. step.deleted_over t current k live version)
-    (λ values. deleted_fine t current k live version))
+delete_fine : (t : ServedShape) (current : ℕ) (existing : Option Object) (k : Key) (query : List ℕ) (body : Option Data) → IsFine (step.delete_plan t current existing k query body)
+delete_fine t current existing k query body =
+    checked (options_validated body) (λ version. validated.and_then (parameters_validated asked.Delete query) (λ values. step.deleted_over t current k existing version))
+    (λ version. checked (parameters_validated asked.Delete query) (λ values. step.deleted_over t current k existing version)
+    (λ values. deleted_fine t current k existing version))
 
 with_body : (o : Option Data) (validate : Data → Validated Plan) → ((body : Data) → IsFine (validate body)) → IsFine (validated.and_then (step.body_of o) validate)
 with_body o validate is = checked (step.body_of o) validate is
 
-object_fine : (m : Method) (by : Subresource) (t : ServedShape) (current : ℕ) (live : Option Object) (k : Key) (query : List ℕ) (o : Option Data) → IsFine (step.object_validated_by m by t current live k query o)
-object_fine method.Get by t current live k query o = get_fine t current live k query
-object_fine method.Post by t current live k query o = denied _
-object_fine method.Put by t current live k query o = with_body o (step.update_validated by t current live k query) (update_fine by t current live k query)
-object_fine method.Patch by t current live k query o = with_body o (step.apply_validated by t current live k query) (apply_fine by t current live k query)
-object_fine method.Delete subresource.Main t current live k query o = delete_fine t current live k query o
-object_fine method.Delete subresource.Status t current live k query o = denied _
+object_fine : (m : Method) (by : Subresource) (t : ServedShape) (current : ℕ) (existing : Option Object) (k : Key) (query : List ℕ) (o : Option Data) → IsFine (step.dispatch_object m by t current existing k query o)
+object_fine method.Get by t current existing k query o = get_fine t current existing k query
+object_fine method.Post by t current existing k query o = denied _
+object_fine method.Put by t current existing k query o = with_body o (step.update_plan by t current existing k query) (update_fine by t current existing k query)
+object_fine method.Patch by t current existing k query o = with_body o (step.apply_plan by t current existing k query) (apply_fine by t current existing k query)
+object_fine method.Delete subresource.Main t current existing k query o = delete_fine t current existing k query o
+object_fine method.Delete subresource.Status t current existing k query o = denied _
 
 -- ---- lists and watches
 
@@ -373,7 +373,7 @@ watch_answer : (r : Result WatchFrom ListRefusal) → IsAnswer (step.watch_shown
 watch_answer (Ok from) = (omega arith, omega arith)
 watch_answer (Err refusal) = tt {0}
 
-shown : (s : Source) (of : Collection) (values : Values) (o : Option Watch) → IsAnswer (step.shown_by s of values o)
+shown : (s : HistoryWindow) (of : Collection) (values : Values) (o : Option Watch) → IsAnswer (step.shown_by s of values o)
 shown s of values None = page_answer (list_of of values s.current s.compacted s.at)
 shown s of values (Some watch) = watch_answer (started s of.kind of.namespace values watch)
 
@@ -381,34 +381,34 @@ answered : (r : Result Answer ListRefusal) → IsAnswer r → IsFine (step.list_
 answered (Ok a) is = fine _ is
 answered (Err refusal) is = denied _
 
-list_fine : (t : ServedShape) (s : Source) (kind : ℕ) (namespace : Option (List ℕ)) (query : List ℕ) → IsFine (step.list_validated t s kind namespace query)
+list_fine : (t : ServedShape) (s : HistoryWindow) (kind : ℕ) (namespace : Option (List ℕ)) (query : List ℕ) → IsFine (step.list_plan t s kind namespace query)
 list_fine t s kind namespace query =
     let of = step.collection_of t kind namespace in
     checked (parameters_validated asked.List query) (λ values. step.list_answered (step.shown_by s of values values.watch))
     (λ values. answered (step.shown_by s of values values.watch) (shown s of values values.watch))
 
-all_fine : (m : Method) (t : ServedShape) (s : Source) (call : Call) → IsFine (step.validated_by of_all m t s call)
+all_fine : (m : Method) (t : ServedShape) (s : HistoryWindow) (call : Call) → IsFine (step.dispatch_scope of_all m t s call)
 all_fine method.Get t s call = list_fine t s call.target.kind None call.query
 all_fine method.Post t s call = denied _
 all_fine method.Put t s call = denied _
 all_fine method.Patch t s call = denied _
 all_fine method.Delete t s call = denied _
 
-collection_fine : (m : Method) (t : ServedShape) (s : Source) (call : Call) (namespace : List ℕ) → IsFine (step.validated_by (of_namespace namespace) m t s call)
-collection_fine method.Post t s call namespace = with_body call.body (step.create_validated t s call.target.kind namespace call.query) (create_fine t s call.target.kind namespace call.query)
+collection_fine : (m : Method) (t : ServedShape) (s : HistoryWindow) (call : Call) (namespace : List ℕ) → IsFine (step.dispatch_scope (of_namespace namespace) m t s call)
+collection_fine method.Post t s call namespace = with_body call.body (step.create_plan t s call.target.kind namespace call.query) (create_fine t s call.target.kind namespace call.query)
 collection_fine method.Get t s call namespace = list_fine t s call.target.kind (Some namespace) call.query
 collection_fine method.Put t s call namespace = denied _
 collection_fine method.Patch t s call namespace = denied _
 collection_fine method.Delete t s call namespace = denied _
 
-by_fine : (scope : Scope) (m : Method) (t : ServedShape) (s : Source) (call : Call) → IsFine (step.validated_by scope m t s call)
+by_fine : (scope : Scope) (m : Method) (t : ServedShape) (s : HistoryWindow) (call : Call) → IsFine (step.dispatch_scope scope m t s call)
 by_fine of_all m t s call = all_fine m t s call
 by_fine (of_namespace namespace) m t s call = collection_fine m t s call namespace
 by_fine (of_object namespace name by) m t s call =
     let k = step.key_at call namespace name in
     object_fine m by t s.current (step.object_at s k) k call.query call.body
 
-at_fine : (found : Option ServedShape) (scope : Option Scope) (s : Source) (call : Call) → IsFine (step.validated_at found scope s call)
+at_fine : (found : Option ServedShape) (scope : Option Scope) (s : HistoryWindow) (call : Call) → IsFine (step.dispatch_type found scope s call)
 at_fine None scope s call = denied _
 at_fine (Some t) None s call = denied _
 at_fine (Some t) (Some scope) s call = by_fine scope call.target.method t s call
@@ -419,5 +419,5 @@ plan_fine (Err d) is = code_is d.reason
 
 pub status_is : (types : List ServedShape) (m : History) (call : Call) → IsStatusCode (step.planned types m call).answer.status
 status_is types m call =
-    plan_fine (step.validated_over types (from_history m) call)
+    plan_fine (step.dispatch_call types (from_history m) call)
     (at_fine (slice_get types call.target.kind) (scope_of call.target.namespace call.target.name call.target.status) (from_history m) call)

@@ -7,7 +7,7 @@ use Rattle.params.specs.declared.params.Asked.TheVariants as asked
 use Rattle.lists.specs.Body.{Collection}
 use Rattle.api_request.specs.declared.method.Method.TheVariants.{Get}
 use Rattle.watchline.specs.Opening.{WatchFrom, from_parts}
-use Rattle.watchline.specs.declared.opening.Initial.TheVariants.{Changes}
+use Rattle.watchline.specs.declared.opening.InitialEvents.TheVariants.{Changes}
 use Rattle.api_request.specs.Calls.{Call, Plan}
 use Rattle.api_validation.specs.Parameters.{parameters_validated}
 use Rattle.verbs.specs.Step.{collection_of}

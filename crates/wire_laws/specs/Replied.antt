@@ -1,8 +1,8 @@
 -- What a client reads of a reply.
 use Rattle.std.specs.Prelude.{ℕ, List, [], ◌∷◌, length, nat_le, if◌then◌else◌}
 use Rattle.wireclient.specs.Reads.{max_body}
-use Rattle.wireclient.specs.Reply.{Told, end, head, malformed, whole}
+use Rattle.wireclient.specs.Reply.{ReplyItem, end, head, malformed, whole}
 
 -- the status, the body and the end; where the body is too long for a client a bad byte alone
-abbrev pub reply_told : ℕ → List ℕ → List Told
-reply_told code body = if nat_le (length body) max_body then head code ∷ whole body ∷ end ∷ [] else malformed ∷ []
+abbrev pub reply_sent : ℕ → List ℕ → List ReplyItem
+reply_sent code body = if nat_le (length body) max_body then head code ∷ whole body ∷ end ∷ [] else malformed ∷ []

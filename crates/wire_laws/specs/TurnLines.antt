@@ -1,7 +1,7 @@
 -- The lines of a watch's turn, as a client gets them.
 use Rattle.std.specs.Prelude.{◌≡◌, ℕ, List, map}
 use Rattle.std.specs.List.{All}
-use Rattle.wireclient.specs.Lines.{HasNoFeed, with_feed}
+use Rattle.wireclient.specs.LineLaws.{HasNoFeed, with_feed}
 
 -- each is a text without a line feed, and then its line feed
 abbrev pub AreLines : List (List ℕ) → Type 0

@@ -7,7 +7,7 @@ ghost use Rattle.verbs.specs.Step.{planned};
 ghost use Rattle.requests.specs.Asks.{Asks};
 ghost use Rattle.requests.specs.Decision.{accepted, refused, undecided};
 ghost use Rattle.requests.specs.Replies.{answer_reply, refusal_reply};
-ghost use Rattle.httpedge.specs.Connections.{Connection, ended, is_new, is_waiting, waiting, with_standing, with_written};
+ghost use Rattle.httpedge.specs.Connections.{Connection, ended, is_new, is_waiting, waiting, with_phase, with_written};
 ghost use Rattle.httpedge.specs.Runs.{Steps};
 ghost use Rattle.httpedge.specs.Steps.{Event, Refusal, State, comes, opening, opens, refusal};
 
@@ -21,18 +21,18 @@ pub fn connections_begin()
 /// connection has ended; while the bytes ask nothing yet it waits for more. One that opens a watch it answers by the
 /// head of a watch (`watches_begin`).
 pub fn replies_are_written()
-    ensures answers { (s t : State) (id : ℕ) (bytes front : List ℕ) (c : Connection) (call : Call) → Steps s (comes id bytes) t → fin.get s.connections id ≡ Some c → c.standing ≡ waiting front
-        → Asks s.types (front ++ bytes) (accepted call) → (planned s.types s.machine call).answer.watch ≡ None
+    ensures answers { (s t : State) (id : ℕ) (bytes prefix : List ℕ) (c : Connection) (call : Call) → Steps s (comes id bytes) t → fin.get s.connections id ≡ Some c → c.phase ≡ waiting prefix
+        → Asks s.types (prefix ++ bytes) (accepted call) → (planned s.types s.machine call).answer.watch ≡ None
         → fin.get t.connections id ≡ Some (with_written c (answer_reply (planned s.types s.machine call).answer) ended) }
-    ensures refusals { (s t : State) (id : ℕ) (bytes front : List ℕ) (c : Connection) (d : Denied) → Steps s (comes id bytes) t → fin.get s.connections id ≡ Some c → c.standing ≡ waiting front
-        → Asks s.types (front ++ bytes) (refused d) → fin.get t.connections id ≡ Some (with_written c (refusal_reply d) ended) }
-    ensures waits { (s t : State) (id : ℕ) (bytes front : List ℕ) (c : Connection) → Steps s (comes id bytes) t → fin.get s.connections id ≡ Some c → c.standing ≡ waiting front
-        → Asks s.types (front ++ bytes) undecided → fin.get t.connections id ≡ Some (with_standing c (waiting (front ++ bytes))) }
+    ensures refusals { (s t : State) (id : ℕ) (bytes prefix : List ℕ) (c : Connection) (d : Denied) → Steps s (comes id bytes) t → fin.get s.connections id ≡ Some c → c.phase ≡ waiting prefix
+        → Asks s.types (prefix ++ bytes) (refused d) → fin.get t.connections id ≡ Some (with_written c (refusal_reply d) ended) }
+    ensures waits { (s t : State) (id : ℕ) (bytes prefix : List ℕ) (c : Connection) → Steps s (comes id bytes) t → fin.get s.connections id ≡ Some c → c.phase ≡ waiting prefix
+        → Asks s.types (prefix ++ bytes) undecided → fin.get t.connections id ≡ Some (with_phase c (waiting (prefix ++ bytes))) }
 {}
 
 /// An event that is refused changes nothing (`refused`), and neither do bytes on a connection that doesn't wait for them
-/// (`unheard`).
+/// (`unreceived`).
 pub fn refused_stay()
     ensures refused { (s t : State) (e : Event) (why : Refusal) → refusal s e ≡ Some why → Steps s e t → t ≡ s }
-    ensures unheard { (s t : State) (id : ℕ) (bytes : List ℕ) (c : Connection) → Steps s (comes id bytes) t → fin.get s.connections id ≡ Some c → is_waiting c.standing ≡ false → t ≡ s }
+    ensures unreceived { (s t : State) (id : ℕ) (bytes : List ℕ) (c : Connection) → Steps s (comes id bytes) t → fin.get s.connections id ≡ Some c → is_waiting c.phase ≡ false → t ≡ s }
 {}

@@ -3,7 +3,7 @@
 ghost use Rattle.std.specs.Prelude.{◌≡◌, ◌≤◌, ℕ, List, [], ◌∷◌, ◌++◌, length, true, false, Option, Some, None};
 ghost use Rattle.std.specs.List.{All, list_any};
 ghost use Rattle.form_urlencoded.specs.Form.{extend_pairs};
-ghost use Rattle.lists.specs.Tokens.{IsTextPair};
+ghost use Rattle.lists.specs.TokenLaws.{IsTextPair};
 ghost use Rattle.params.specs.Query.{pairs_in};
 ghost use Rattle.api_types.specs.TypesFile.{ServedShape};
 ghost use Rattle.requests.specs.Asks.{Asks};

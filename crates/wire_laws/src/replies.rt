@@ -24,15 +24,15 @@ ghost use Rattle.wireclient.specs.Reads.{Items, max_body};
 ghost use Rattle.wireclient.specs.Reply.{end, head, whole};
 ghost use Rattle.wire_laws.specs.Listings.{IsListing, listed_by};
 ghost use Rattle.wire_laws.specs.Printed.{IsAllowed};
-ghost use Rattle.wire_laws.specs.Replied.{reply_told};
+ghost use Rattle.wire_laws.specs.Replied.{reply_sent};
 
 /// A reply that the server prints (RFC 9112, section 4), of any status, is read by the client as this status, this
 /// body and the end, and as malformed where the body is too long for a client (`replies`). `short` is of a body that
 /// isn't. A body of 2^64 bytes and more is none that memory has.
 pub fn replies_are_read()
     ensures replies { (code : ℕ) (allow : Option (List ℕ)) (body : List ℕ) → IsStatusCode code → IsAllowed allow → length body < 2 ^ 64
-        → Items (reply code allow body) (reply_told code body) }
-    ensures short { (code : ℕ) (body : List ℕ) → length body ≤ max_body → reply_told code body ≡ head code ∷ whole body ∷ end ∷ [] }
+        → Items (reply code allow body) (reply_sent code body) }
+    ensures short { (code : ℕ) (body : List ℕ) → length body ≤ max_body → reply_sent code body ≡ head code ∷ whole body ∷ end ∷ [] }
 {
     wireclient::reply_reads_back();
     wireclient::long_replies_are_malformed();
@@ -53,7 +53,7 @@ pub fn refusals_are_read()
 /// too long for a client.
 pub fn answers_are_read()
     ensures { (types : List ServedShape) (m : History) (call : Call) → length (planned types m call).answer.body < 2 ^ 64
-        → Items (answer_reply (planned types m call).answer) (reply_told (planned types m call).answer.status (planned types m call).answer.body) }
+        → Items (answer_reply (planned types m call).answer) (reply_sent (planned types m call).answer.status (planned types m call).answer.body) }
 {
     replies_are_read();
 }

@@ -12,7 +12,7 @@ ghost use Rattle.verbs.specs.Step.{planned};
 ghost use Rattle.requests.specs.Replies.{answer_bytes};
 ghost use Rattle.httpedge.specs.Watches.{Watch, pumped, ticked};
 ghost use Rattle.wireclient.specs.Reads.{Items};
-ghost use Rattle.wire_laws.specs.Replied.{reply_told};
+ghost use Rattle.wire_laws.specs.Replied.{reply_sent};
 ghost use Rattle.wire_laws.specs.TurnLines.{AreLines};
 
 use crate::replies::answers_are_read;
@@ -21,7 +21,7 @@ use crate::replies::answers_are_read;
 /// as malformed where the body is too long for a client. Of one that opens a watch it writes the head (`watches_begin`).
 pub fn answers_are_written()
     ensures { (types : List ServedShape) (m : History) (call : Call) → (planned types m call).answer.watch ≡ None → length (planned types m call).answer.body < 2 ^ 64
-        → Items (answer_bytes (planned types m call).answer (planned types m call).answer.watch) (reply_told (planned types m call).answer.status (planned types m call).answer.body) }
+        → Items (answer_bytes (planned types m call).answer (planned types m call).answer.watch) (reply_sent (planned types m call).answer.status (planned types m call).answer.body) }
 {
     answers_are_read();
 }

@@ -44,10 +44,10 @@ fields_fit buf headers count fields at room =
 
 pub whole_head : (buf : List ℕ) (headers : List HeaderSpan) (r : ResponseSpans) → IsResponseOf buf headers r → r.len ≡ length buf → length headers ≤ max_fields
     → (f : Framing) → Some f ≡ framing_of (map (header_bytes buf) (take r.headers headers)) → Checked buf (Some (r.code, f))
-whole_head buf headers r (h, at) whole room f told = (
+whole_head buf headers r (h, at) whole room f emitted = (
   h,
   (at.reads.0, at.reads.1 ∙ ap (λ (rest : List ℕ). print_response h ++ rest) (drop_all r.len buf (omega (arith, whole)))),
   fields_fit buf headers r.headers h.fields at.fields room,
   at.code,
-  sym (ap framing_of at.fields) ∙ sym told,
+  sym (ap framing_of at.fields) ∙ sym emitted,
 )

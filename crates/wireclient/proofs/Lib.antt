@@ -1,7 +1,8 @@
 pub mod Chunked
 mod Closing
 pub mod Determined
-pub mod Fronts
+pub mod EachReads
+pub mod Prefixes
 pub mod Heads
 mod Checking
 pub mod Leading

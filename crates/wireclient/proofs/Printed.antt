@@ -4,7 +4,7 @@ use Rattle.std.proofs.lemmas.List.Elements.{All-cons, All-nil}
 use Rattle.std.specs.Prelude.{codes}
 use Rattle.std.specs.List.{All, flat_map}
 use Rattle.httparse.specs.Grammar.{AllPass, is_value_byte, print_end, print_blank, print_version, print_field, print_reason, reason_phrase, ResponseHead, IsResponseHead, print_response}
-use Rattle.wire.specs.declared.place.Place.TheVariants.{Leading, Inside, Fed}
+use Rattle.wire.specs.declared.place.ScanState.TheVariants.{Leading, Inside, Fed}
 use Rattle.wire.proofs.Lines.{EndsAtLast, Goes, IsInLine, blank_lines, digits_in_line, fields_go, goes_append, goes_in, last_end, line_ends, longer, stays_inside, value_in_line, version_in_line}
 
 reason_in_line : (o : Option (List ℕ)) → AllPass is_value_byte (reason_phrase o) → All IsInLine (print_reason o)

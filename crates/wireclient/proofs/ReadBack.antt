@@ -6,15 +6,15 @@ use Rattle.std.specs.Prelude.{◌==◌}
 use Rattle.std.specs.Fmt.{decimal}
 use Rattle.httparse.specs.Grammar.{ResponseHead, IsResponseHead, print_response, status_code}
 use Rattle.httparse.specs.Spans.{name_and_value}
-use Rattle.wire.specs.declared.place.Place.{Place}
-use Rattle.wire.specs.declared.place.Place.TheVariants.{Leading}
+use Rattle.wire.specs.declared.place.ScanState.{ScanState}
+use Rattle.wire.specs.declared.place.ScanState.TheVariants.{Leading}
 use Rattle.wire.specs.Heads.{max_fields, max_head, place_after}
 use Rattle.wire.specs.Lengths.{length_in}
 use Rattle.wire.proofs.Lengths.{decimal_read}
 use Rattle.wire.proofs.Lines.{Goes, EndsAtLast}
-use Rattle.wireclient.specs.Reads.{Items, Checked, CheckedWhereEnded, Leads, framed_by_length, framing_of, max_body, start}
-use Rattle.wireclient.specs.Reply.{by_length, HeadCheck, Told, head, whole, end, heading, body, ended, Next, fails, goes_to, begun, headed, step}
-use Rattle.wireclient.proofs.Leading.{leads_append, one_byte}
+use Rattle.wireclient.specs.Reads.{Items, Checked, CheckedWhereEnded, Reaches, framed_by_length, framing_of, max_body, start}
+use Rattle.wireclient.specs.Reply.{by_length, HeadCheck, ReplyItem, head, whole, end, heading, body, ended, Next, fails, goes_to, begun, headed, step}
+use Rattle.wireclient.proofs.Leading.{reaches_append, one_byte}
 use Rattle.wireclient.proofs.Lengthened.{more_of_body}
 use Rattle.wireclient.proofs.Heads.{checked_so, next_so}
 use Rattle.wireclient.proofs.Checking.{within_limit}
@@ -22,46 +22,46 @@ use Rattle.wireclient.proofs.Printed.{head_ends}
 
 -- ---- a byte that doesn't end the head
 
-unchecked : (t : Bool) (bytes : List ℕ) (o : Option Place) (m : Place) → o ≡ Some m → CheckedWhereEnded t bytes o None
+unchecked : (t : Bool) (bytes : List ℕ) (o : Option ScanState) (m : ScanState) → o ≡ Some m → CheckedWhereEnded t bytes o None
 unchecked true bytes o m is = tt
 unchecked false bytes (Some p) m is = tt
 unchecked false bytes None m is = absurd cc
 
-goes_on : (t : Bool) (bytes : List ℕ) (o : Option Place) (m : Place) → t ≡ false → o ≡ Some m → cond t fails (headed None bytes o) ≡ goes_to (heading bytes m)
+goes_on : (t : Bool) (bytes : List ℕ) (o : Option ScanState) (m : ScanState) → t ≡ false → o ≡ Some m → cond t fails (headed None bytes o) ≡ goes_to (heading bytes m)
 goes_on true bytes o m t-is o-is = absurd cc
-goes_on false bytes (Some p) m t-is o-is = let same : p ≡ m = cc in ap (λ (q : Place). goes_to (heading bytes q)) same
+goes_on false bytes (Some p) m t-is o-is = let same : p ≡ m = cc in ap (λ (q : ScanState). goes_to (heading bytes q)) same
 goes_on false bytes None m t-is o-is = absurd cc
 
-walked : (seen : List ℕ) (p q : Place) (bytes : List ℕ) → length seen + length bytes ≤ max_head → Goes p bytes q → Leads (heading seen p) bytes (heading (seen ++ bytes) q) []
-walked seen p q [] fits goes = (ap₂ (λ (xs : List ℕ) (r : Place). heading xs r) (append-nil seen) (sym goes), refl)
+walked : (seen : List ℕ) (p q : ScanState) (bytes : List ℕ) → length seen + length bytes ≤ max_head → Goes p bytes q → Reaches (heading seen p) bytes (heading (seen ++ bytes) q) []
+walked seen p q [] fits goes = (ap₂ (λ (xs : List ℕ) (r : ScanState). heading xs r) (append-nil seen) (sym goes), refl)
 walked seen p q (b ∷ bytes) fits goes =
     let long = length-append seen (b ∷ []) in
     let next : step None (heading seen p) b ≡ goes_to (heading (seen ++ b ∷ []) goes.0) =
     goes_on (leb max_head (length seen)) (seen ++ b ∷ []) (place_after p b) goes.0 (lt-leb _ _ (omega (arith, fits))) goes.1 in
     let rest = walked (seen ++ b ∷ []) goes.0 q bytes (omega (arith, long, fits)) goes.2 in
-    let same : Leads (heading (seen ++ b ∷ []) goes.0) bytes (heading (seen ++ b ∷ bytes) q) [] = subst (λ (xs : List ℕ). Leads (heading (seen ++ b ∷ []) goes.0) bytes (heading xs q) []) (append_assoc seen (b ∷ []) bytes) rest in (
+    let same : Reaches (heading (seen ++ b ∷ []) goes.0) bytes (heading (seen ++ b ∷ bytes) q) [] = subst (λ (xs : List ℕ). Reaches (heading (seen ++ b ∷ []) goes.0) bytes (heading xs q) []) (append_assoc seen (b ∷ []) bytes) rest in (
       None,
       [],
       unchecked (leb max_head (length seen)) (seen ++ b ∷ []) (place_after p b) goes.0 goes.1,
-      subst (λ (n : Next). Leads n.0 bytes (heading (seen ++ b ∷ bytes) q) []) (sym next) same,
+      subst (λ (n : Next). Reaches n.0 bytes (heading (seen ++ b ∷ bytes) q) []) (sym next) same,
       sym (ap (λ (n : Next). n.1 ++ []) next),
     )
 
 -- ---- the byte that ends it
 
-head_read : (seen : List ℕ) (p : Place) (j : HeadCheck) → length seen < max_head → place_after p 10 ≡ None → Checked (seen ++ 10 ∷ []) j → Leads (heading seen p) (10 ∷ []) (begun j).0 (begun j).1
+head_read : (seen : List ℕ) (p : ScanState) (j : HeadCheck) → length seen < max_head → place_after p 10 ≡ None → Checked (seen ++ 10 ∷ []) j → Reaches (heading seen p) (10 ∷ []) (begun j).0 (begun j).1
 head_read seen p j fits ends checked =
     let next : step j (heading seen p) 10 ≡ begun j = next_so (leb max_head (length seen)) (seen ++ 10 ∷ []) (place_after p 10) j (lt-leb _ _ fits) ends in
-    subst (λ (n : Next). Leads (heading seen p) (10 ∷ []) n.0 n.1) next
+    subst (λ (n : Next). Reaches (heading seen p) (10 ∷ []) n.0 n.1) next
     (one_byte (heading seen p) (step j (heading seen p) 10).0 10 j (checked_so (leb max_head (length seen)) (seen ++ 10 ∷ []) (place_after p 10) j checked) refl)
 
-pub whole_head_read : (bytes : List ℕ) (j : HeadCheck) → length bytes ≤ max_head → EndsAtLast bytes → Checked bytes j → Leads start bytes (begun j).0 (begun j).1
+pub whole_head_read : (bytes : List ℕ) (j : HeadCheck) → length bytes ≤ max_head → EndsAtLast bytes → Checked bytes j → Reaches start bytes (begun j).0 (begun j).1
 whole_head_read bytes j fits e checked =
     let long : length bytes ≡ length e.seen + 1 = ap (λ (xs : List ℕ). length xs) e.is ∙ length-append e.seen (10 ∷ []) in
-    let before : Leads start e.seen (heading e.seen e.place) [] = walked [] Leading e.place e.seen (omega (arith, long, fits)) e.goes in
-    let last : Leads (heading e.seen e.place) (10 ∷ []) (begun j).0 (begun j).1 = head_read e.seen e.place j (omega (arith, long, fits)) e.ends (subst (λ (xs : List ℕ). Checked xs j) e.is checked) in
-    subst (λ (xs : List ℕ). Leads start xs (begun j).0 (begun j).1) (sym e.is)
-    (leads_append start (heading e.seen e.place) (begun j).0 e.seen (10 ∷ []) [] (begun j).1 before last)
+    let before : Reaches start e.seen (heading e.seen e.place) [] = walked [] Leading e.place e.seen (omega (arith, long, fits)) e.goes in
+    let last : Reaches (heading e.seen e.place) (10 ∷ []) (begun j).0 (begun j).1 = head_read e.seen e.place j (omega (arith, long, fits)) e.ends (subst (λ (xs : List ℕ). Checked xs j) e.is checked) in
+    subst (λ (xs : List ℕ). Reaches start xs (begun j).0 (begun j).1) (sym e.is)
+    (reaches_append start (heading e.seen e.place) (begun j).0 e.seen (10 ∷ []) [] (begun j).1 before last)
 
 -- ---- the body
 
@@ -69,7 +69,7 @@ last_of_body : (t : Bool) (bytes : List ℕ) (left : ℕ) → t ≡ true → con
 last_of_body true bytes left is = refl
 last_of_body false bytes left is = absurd cc
 
-body_read : (left : ℕ) (seen : List ℕ) (b : ℕ) (bytes : List ℕ) → left ≡ length bytes + 1 → Leads (body left seen) (b ∷ bytes) ended (whole (seen ++ b ∷ bytes) ∷ end ∷ [])
+body_read : (left : ℕ) (seen : List ℕ) (b : ℕ) (bytes : List ℕ) → left ≡ length bytes + 1 → Reaches (body left seen) (b ∷ bytes) ended (whole (seen ++ b ∷ bytes) ∷ end ∷ [])
 body_read left seen b [] is =
     let next = last_of_body (leb left 1) (seen ++ b ∷ []) (left - 1) (le-leb _ _ (omega (arith, is))) in (
       None,
@@ -81,13 +81,13 @@ body_read left seen b [] is =
 body_read left seen b (c ∷ bytes) is =
     let next = more_of_body (leb left 1) (seen ++ b ∷ []) (left - 1) (lt-leb _ _ (omega (arith, is))) in
     let rest = body_read (left - 1) (seen ++ b ∷ []) c bytes (omega (arith, is)) in
-    let told : List Told = whole (seen ++ b ∷ c ∷ bytes) ∷ end ∷ [] in
-    let same : Leads (body (left - 1) (seen ++ b ∷ [])) (c ∷ bytes) ended (whole (seen ++ b ∷ c ∷ bytes) ∷ end ∷ []) =
-    subst (λ (xs : List ℕ). Leads (body (left - 1) (seen ++ b ∷ [])) (c ∷ bytes) ended (whole xs ∷ end ∷ [])) (append_assoc seen (b ∷ []) (c ∷ bytes)) rest in (
+    let emitted : List ReplyItem = whole (seen ++ b ∷ c ∷ bytes) ∷ end ∷ [] in
+    let same : Reaches (body (left - 1) (seen ++ b ∷ [])) (c ∷ bytes) ended (whole (seen ++ b ∷ c ∷ bytes) ∷ end ∷ []) =
+    subst (λ (xs : List ℕ). Reaches (body (left - 1) (seen ++ b ∷ [])) (c ∷ bytes) ended (whole xs ∷ end ∷ [])) (append_assoc seen (b ∷ []) (c ∷ bytes)) rest in (
       None,
       whole (seen ++ b ∷ c ∷ bytes) ∷ end ∷ [],
       tt,
-      subst (λ (n : Next). Leads n.0 (c ∷ bytes) ended (whole (seen ++ b ∷ c ∷ bytes) ∷ end ∷ [])) (sym next) same,
+      subst (λ (n : Next). Reaches n.0 (c ∷ bytes) ended (whole (seen ++ b ∷ c ∷ bytes) ∷ end ∷ [])) (sym next) same,
       sym (ap (λ (n : Next). n.1 ++ whole (seen ++ b ∷ c ∷ bytes) ∷ end ∷ []) next),
     )
 
@@ -109,12 +109,12 @@ reply_read h bytes is fits few framed =
     let first = whole_head_read (print_response h) (Some (status_code h, by_length (length bytes))) fits (head_ends h is) checked in
     (ended, after bytes first)
   where
-    after : (bytes : List ℕ) → Leads start (print_response h) (begun (Some (status_code h, by_length (length bytes)))).0 (begun (Some (status_code h, by_length (length bytes)))).1
-        → Leads start (print_response h ++ bytes) ended (head (status_code h) ∷ whole bytes ∷ end ∷ [])
-    after [] first = subst (λ (xs : List ℕ). Leads start xs ended (head (status_code h) ∷ whole [] ∷ end ∷ [])) (sym (append-nil (print_response h))) first
+    after : (bytes : List ℕ) → Reaches start (print_response h) (begun (Some (status_code h, by_length (length bytes)))).0 (begun (Some (status_code h, by_length (length bytes)))).1
+        → Reaches start (print_response h ++ bytes) ended (head (status_code h) ∷ whole bytes ∷ end ∷ [])
+    after [] first = subst (λ (xs : List ℕ). Reaches start xs ended (head (status_code h) ∷ whole [] ∷ end ∷ [])) (sym (append-nil (print_response h))) first
     after (b ∷ bytes) first =
-        leads_append start (body (length (b ∷ bytes)) []) ended (print_response h) (b ∷ bytes) (head (status_code h) ∷ []) (whole (b ∷ bytes) ∷ end ∷ [])
-        (subst (λ (n : Next). Leads start (print_response h) n.0 n.1) (body_begins (status_code h) (length (b ∷ bytes)) (omega arith)) first)
+        reaches_append start (body (length (b ∷ bytes)) []) ended (print_response h) (b ∷ bytes) (head (status_code h) ∷ []) (whole (b ∷ bytes) ∷ end ∷ [])
+        (subst (λ (n : Next). Reaches start (print_response h) n.0 n.1) (body_begins (status_code h) (length (b ∷ bytes)) (omega arith)) first)
         (body_read (length (b ∷ bytes)) [] b bytes (omega arith))
 
 -- ---- a printed length

@@ -2,4 +2,4 @@ pub mod Request
 pub mod Reply
 pub mod Reads
 pub mod Views
-pub mod Lines
+pub mod LineLaws

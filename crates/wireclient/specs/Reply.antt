@@ -1,7 +1,7 @@
--- A reply, byte by byte (RFC 9112, sections 2.2, 6 and 7.1), and the items that a reader tells of it.
+-- A reply, byte by byte (RFC 9112, sections 2.2, 6 and 7.1), and the items that a reader emits of it.
 use Rattle.std.specs.Prelude.{ℕ, Bool, true, false, ◌+◌, ◌-◌, ◌*◌, min, ◌&&◌, ◌==◌, if◌then◌else◌, nat_le, nat_lt, List, [], ◌∷◌, ◌++◌, length, Option, None, Some}
 use Rattle.std.specs.Char.{is_ascii_hexdigit, digit_value}
-use Rattle.wire.specs.declared.place.Place.{Place}
+use Rattle.wire.specs.declared.place.ScanState.{ScanState}
 use Rattle.wire.specs.Heads.{max_head, place_after}
 
 -- how the body is framed: so many bytes, or chunks
@@ -13,26 +13,26 @@ pub data Framing : Type 0 where
 abbrev pub HeadCheck : Type 0
 HeadCheck = Option (ℕ × Framing)
 
-pub data Told : Type 0 where
-  head : ℕ → Told
-  whole : List ℕ → Told
-  line : List ℕ → Told
-  end : Told
-  malformed : Told
+pub data ReplyItem : Type 0 where
+  head : ℕ → ReplyItem
+  whole : List ℕ → ReplyItem
+  line : List ℕ → ReplyItem
+  end : ReplyItem
+  malformed : ReplyItem
 
-abbrev pub is_malformed : Told → Bool
+abbrev pub is_malformed : ReplyItem → Bool
 is_malformed malformed = true
 is_malformed _ = false
 
--- nothing is told after it
-abbrev pub is_last : Told → Bool
+-- nothing is emitted after it
+abbrev pub is_last : ReplyItem → Bool
 is_last end = true
 is_last malformed = true
 is_last _ = false
 
 -- what has come of the reply
 pub data State : Type 0 where
-  heading : List ℕ → Place → State  -- the head so far
+  heading : List ℕ → ScanState → State  -- the head so far
   body : ℕ → List ℕ → State  -- so many bytes are to come, and those that came
   size : ℕ → ℕ → List ℕ → State  -- digits of a chunk's size, their value, and the line so far
   size_lf : ℕ → List ℕ → State
@@ -46,7 +46,7 @@ abbrev pub max_line : ℕ
 max_line = 2097152
 
 abbrev pub Next : Type 0
-Next = State × List Told
+Next = State × List ReplyItem
 
 abbrev pub fails : Next
 fails = (broken, malformed ∷ [])
@@ -59,7 +59,7 @@ begun None = fails
 begun (Some (status, by_length n)) = if n == 0 then (ended, head status ∷ whole [] ∷ end ∷ []) else (body n [], head status ∷ [])
 begun (Some (status, by_chunks)) = (size 0 0 [], head status ∷ [])
 
-abbrev pub headed : HeadCheck → List ℕ → Option Place → Next
+abbrev pub headed : HeadCheck → List ℕ → Option ScanState → Next
 headed j bytes None = begun j
 headed j bytes (Some p) = goes_to (heading bytes p)
 

@@ -6,18 +6,18 @@ use Rattle.wireclient.specs.declared.state.Framing as framings
 use Rattle.wireclient.specs.declared.state.Framing.TheVariants as framing
 use Rattle.wireclient.specs.declared.state.State as states
 use Rattle.wireclient.specs.declared.state.State.TheVariants as state
-use Rattle.wireclient.specs.Reply.{HeadCheck, Framing, by_length, by_chunks, Told, head, whole, line, end, malformed, State, heading, body, size, size_lf, data_in, data_cr, data_lf, last_cr, last_lf, ended, broken}
+use Rattle.wireclient.specs.Reply.{HeadCheck, Framing, by_length, by_chunks, ReplyItem, head, whole, line, end, malformed, State, heading, body, size, size_lf, data_in, data_cr, data_lf, last_cr, last_lf, ended, broken}
 
 abbrev pub framing_in : framings.Framing → Framing
 framing_in (framing.Length n) = by_length n
 framing_in framing.Chunks = by_chunks
 
-abbrev pub told_of : items.Item → Told
-told_of (item.Head status) = head status
-told_of (item.Body bytes) = whole bytes.items
-told_of (item.Line bytes) = line bytes.items
-told_of item.End = end
-told_of item.Malformed = malformed
+abbrev pub reply_item_of : items.Item → ReplyItem
+reply_item_of (item.Head status) = head status
+reply_item_of (item.Body bytes) = whole bytes.items
+reply_item_of (item.Line bytes) = line bytes.items
+reply_item_of item.End = end
+reply_item_of item.Malformed = malformed
 
 abbrev pub state_of : states.State → State
 state_of (state.Heading bytes p) = heading bytes.items p

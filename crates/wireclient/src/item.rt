@@ -11,6 +11,6 @@ pub enum Item {
     Line(Vec<u8>),
     /// The end of the reply; what comes after it is ignored.
     End,
-    /// The next byte broke a rule, and nothing more is told.
+    /// The next byte broke a rule, and nothing more is emitted.
     Malformed,
 }

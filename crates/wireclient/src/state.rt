@@ -3,13 +3,13 @@
 ghost use Rattle.std.specs.Prelude.{◌≡◌, ◌++◌, [], ◌∷◌, None, map, IfOk, OnOk, ◌==◌, if◌then◌else◌};
 ghost use Rattle.wireclient.specs.Reads.{Steps};
 ghost use Rattle.wireclient.specs.Reply.{heading, HeadCheck, data_after, step, begun, fails, goes_to, broken, body, size, size_lf, data_in, last_lf, malformed};
-ghost use Rattle.wireclient.specs.Views.{state_of, told_of, check_of};
+ghost use Rattle.wireclient.specs.Views.{state_of, reply_item_of, check_of};
 
 use crate::head::check_head;
 use crate::item::Item;
 use httparse::parse_hex_digit;
 use std::alloc::{AllocError, Global};
-use wire::{MAX_HEAD, Place, place_after};
+use wire::{MAX_HEAD, ScanState, place_after};
 
 pub(crate) const MAX_LINE: usize = 2_097_152;
 
@@ -20,10 +20,10 @@ pub(crate) enum Framing {
     Chunks,
 }
 
-/// What has come of a reply; the bytes kept are what isn't told yet.
+/// What has come of a reply; the bytes kept are of what nothing was emitted yet.
 #[derive(Debug, Drop)]
 pub(crate) enum State {
-    Heading(Vec<u8>, Place),
+    Heading(Vec<u8>, ScanState),
     /// So many bytes are to come, and those that came.
     Body(u64, Vec<u8>),
     /// Digits of a chunk's size, their value, and the line so far.
@@ -38,11 +38,11 @@ pub(crate) enum State {
     Broken,
 }
 
-fn fails(told: &mut Vec<Item>) -> Result<State, AllocError>
+fn fails(emitted: &mut Vec<Item>) -> Result<State, AllocError>
     ensures state { IfOk result (λ s. state_of s ≡ broken) }
-    ensures told { OnOk result (map told_of told.new.items ≡ map told_of told.old.items ++ malformed ∷ []) }
+    ensures emitted { OnOk result (map reply_item_of emitted.new.items ≡ map reply_item_of emitted.old.items ++ malformed ∷ []) }
 {
-    told.push(Item::Malformed)?;
+    emitted.push(Item::Malformed)?;
     Ok(State::Broken)
 }
 
@@ -50,17 +50,17 @@ fn body_step(
     mut bytes: Vec<u8>,
     left: u64,
     byte: u8,
-    told: &mut Vec<Item>,
+    emitted: &mut Vec<Item>,
 ) -> Result<State, AllocError>
     ensures state { IfOk result (λ s. state_of s ≡ (step None (body left bytes.items) byte).0) }
-    ensures told { OnOk result (map told_of told.new.items ≡ map told_of told.old.items ++ (step None (body left bytes.items) byte).1) }
+    ensures emitted { OnOk result (map reply_item_of emitted.new.items ≡ map reply_item_of emitted.old.items ++ (step None (body left bytes.items) byte).1) }
 {
     bytes.push(byte)?;
     if left > 1 {
         return Ok(State::Body(left - 1, bytes));
     }
-    told.push(Item::Body(bytes))?;
-    told.push(Item::End)?;
+    emitted.push(Item::Body(bytes))?;
+    emitted.push(Item::End)?;
     Ok(State::Ended)
 }
 
@@ -79,16 +79,16 @@ fn data_step(
     mut text: Vec<u8>,
     left: u64,
     byte: u8,
-    told: &mut Vec<Item>,
+    emitted: &mut Vec<Item>,
 ) -> Result<State, AllocError>
     ensures state { IfOk result (λ s. state_of s ≡ (step None (data_in left text.items) byte).0) }
-    ensures told { OnOk result (map told_of told.new.items ≡ map told_of told.old.items ++ (step None (data_in left text.items) byte).1) }
+    ensures emitted { OnOk result (map reply_item_of emitted.new.items ≡ map reply_item_of emitted.old.items ++ (step None (data_in left text.items) byte).1) }
 {
     if text.len() >= MAX_LINE {
-        return fails(told);
+        return fails(emitted);
     }
     if byte == b'\n' {
-        told.push(Item::Line(text))?;
+        emitted.push(Item::Line(text))?;
         return Ok(data_after(left.saturating_sub(1), Vec::new(alloc)));
     }
     text.push(byte)?;
@@ -100,10 +100,10 @@ fn size_step(
     count: u8,
     value: u64,
     byte: u8,
-    told: &mut Vec<Item>,
+    emitted: &mut Vec<Item>,
 ) -> Result<State, AllocError>
     ensures state { IfOk result (λ s. state_of s ≡ (step None (size count value text.items) byte).0) }
-    ensures told { OnOk result (map told_of told.new.items ≡ map told_of told.old.items ++ (step None (size count value text.items) byte).1) }
+    ensures emitted { OnOk result (map reply_item_of emitted.new.items ≡ map reply_item_of emitted.old.items ++ (step None (size count value text.items) byte).1) }
 {
     match parse_hex_digit(byte) {
         Some(digit) if count < 16 => {
@@ -111,7 +111,7 @@ fn size_step(
             Ok(State::Size(count + 1, value, text))
         }
         None if byte == b'\r' && count > 0 => Ok(State::SizeLf(value, text)),
-        _ => fails(told),
+        _ => fails(emitted),
     }
 }
 
@@ -119,13 +119,13 @@ fn size_lf_step(
     text: Vec<u8>,
     value: u64,
     byte: u8,
-    told: &mut Vec<Item>,
+    emitted: &mut Vec<Item>,
 ) -> Result<State, AllocError>
     ensures state { IfOk result (λ s. state_of s ≡ (step None (size_lf value text.items) byte).0) }
-    ensures told { OnOk result (map told_of told.new.items ≡ map told_of told.old.items ++ (step None (size_lf value text.items) byte).1) }
+    ensures emitted { OnOk result (map reply_item_of emitted.new.items ≡ map reply_item_of emitted.old.items ++ (step None (size_lf value text.items) byte).1) }
 {
     if byte != b'\n' {
-        return fails(told);
+        return fails(emitted);
     }
     if value == 0 {
         Ok(State::LastCr(text))
@@ -134,46 +134,46 @@ fn size_lf_step(
     }
 }
 
-fn last_lf_step(text: Vec<u8>, byte: u8, told: &mut Vec<Item>) -> Result<State, AllocError>
+fn last_lf_step(text: Vec<u8>, byte: u8, emitted: &mut Vec<Item>) -> Result<State, AllocError>
     ensures state { IfOk result (λ s. state_of s ≡ (step None (last_lf text.items) byte).0) }
-    ensures told { OnOk result (map told_of told.new.items ≡ map told_of told.old.items ++ (step None (last_lf text.items) byte).1) }
+    ensures emitted { OnOk result (map reply_item_of emitted.new.items ≡ map reply_item_of emitted.old.items ++ (step None (last_lf text.items) byte).1) }
 {
     if byte != b'\n' || !text.is_empty() {
-        return fails(told);
+        return fails(emitted);
     }
-    told.push(Item::End)?;
+    emitted.push(Item::End)?;
     Ok(State::Ended)
 }
 
 /// Goes on where the byte is the one that has to come.
-fn expect(next: State, wanted: u8, byte: u8, told: &mut Vec<Item>) -> Result<State, AllocError>
+fn expect(next: State, wanted: u8, byte: u8, emitted: &mut Vec<Item>) -> Result<State, AllocError>
     ensures state { IfOk result (λ s. state_of s ≡ (if byte == wanted then goes_to (state_of next) else fails).0) }
-    ensures told { OnOk result (map told_of told.new.items ≡ map told_of told.old.items ++ (if byte == wanted then goes_to (state_of next) else fails).1) }
+    ensures emitted { OnOk result (map reply_item_of emitted.new.items ≡ map reply_item_of emitted.old.items ++ (if byte == wanted then goes_to (state_of next) else fails).1) }
 {
     if byte == wanted {
         Ok(next)
     } else {
-        fails(told)
+        fails(emitted)
     }
 }
 
 fn begun(
     alloc: Global,
     checked: Option<(u16, Framing)>,
-    told: &mut Vec<Item>,
+    emitted: &mut Vec<Item>,
 ) -> Result<State, AllocError>
     ensures state { IfOk result (λ s. state_of s ≡ (begun (check_of checked)).0) }
-    ensures told { OnOk result (map told_of told.new.items ≡ map told_of told.old.items ++ (begun (check_of checked)).1) }
+    ensures emitted { OnOk result (map reply_item_of emitted.new.items ≡ map reply_item_of emitted.old.items ++ (begun (check_of checked)).1) }
 {
     let Some((status, framing)) = checked else {
-        return fails(told);
+        return fails(emitted);
     };
-    told.push(Item::Head(status))?;
+    emitted.push(Item::Head(status))?;
     match framing {
         Framing::Chunks => Ok(State::Size(0, 0, Vec::new(alloc))),
         Framing::Length(0) => {
-            told.push(Item::Body(Vec::new(alloc)))?;
-            told.push(Item::End)?;
+            emitted.push(Item::Body(Vec::new(alloc)))?;
+            emitted.push(Item::End)?;
             Ok(State::Ended)
         }
         Framing::Length(left) => Ok(State::Body(left, Vec::new(alloc))),
@@ -183,41 +183,41 @@ fn begun(
 fn heading_step(
     alloc: Global,
     mut bytes: Vec<u8>,
-    place: Place,
+    place: ScanState,
     byte: u8,
-    told: &mut Vec<Item>,
+    emitted: &mut Vec<Item>,
 ) -> Result<State, AllocError>
-    ensures { IfOk result (λ s. Steps (heading bytes.items place) byte (state_of s) (map told_of told.old.items) (map told_of told.new.items)) }
+    ensures { IfOk result (λ s. Steps (heading bytes.items place) byte (state_of s) (map reply_item_of emitted.old.items) (map reply_item_of emitted.new.items)) }
 {
     if bytes.len() >= MAX_HEAD {
-        return fails(told);
+        return fails(emitted);
     }
     bytes.push(byte)?;
     match place_after(place, byte) {
         Some(place) => Ok(State::Heading(bytes, place)),
-        None => begun(alloc, check_head(&bytes), told),
+        None => begun(alloc, check_head(&bytes), emitted),
     }
 }
 
-/// What a byte more makes of it, and what is told then.
+/// What a byte more makes of it, and what is emitted then.
 pub(crate) fn step(
     alloc: Global,
     state: State,
     byte: u8,
-    told: &mut Vec<Item>,
+    emitted: &mut Vec<Item>,
 ) -> Result<State, AllocError>
-    ensures { IfOk result (λ s. Steps (state_of state) byte (state_of s) (map told_of told.old.items) (map told_of told.new.items)) }
+    ensures { IfOk result (λ s. Steps (state_of state) byte (state_of s) (map reply_item_of emitted.old.items) (map reply_item_of emitted.new.items)) }
 {
     match state {
-        State::Heading(bytes, place) => heading_step(alloc, bytes, place, byte, told),
-        State::Body(left, bytes) => body_step(bytes, left, byte, told),
-        State::Size(count, value, text) => size_step(text, count, value, byte, told),
-        State::SizeLf(value, text) => size_lf_step(text, value, byte, told),
-        State::Data(left, text) => data_step(alloc, text, left, byte, told),
-        State::DataCr(text) => expect(State::DataLf(text), b'\r', byte, told),
-        State::DataLf(text) => expect(State::Size(0, 0, text), b'\n', byte, told),
-        State::LastCr(text) => expect(State::LastLf(text), b'\r', byte, told),
-        State::LastLf(text) => last_lf_step(text, byte, told),
+        State::Heading(bytes, place) => heading_step(alloc, bytes, place, byte, emitted),
+        State::Body(left, bytes) => body_step(bytes, left, byte, emitted),
+        State::Size(count, value, text) => size_step(text, count, value, byte, emitted),
+        State::SizeLf(value, text) => size_lf_step(text, value, byte, emitted),
+        State::Data(left, text) => data_step(alloc, text, left, byte, emitted),
+        State::DataCr(text) => expect(State::DataLf(text), b'\r', byte, emitted),
+        State::DataLf(text) => expect(State::Size(0, 0, text), b'\n', byte, emitted),
+        State::LastCr(text) => expect(State::LastLf(text), b'\r', byte, emitted),
+        State::LastLf(text) => last_lf_step(text, byte, emitted),
         State::Ended => Ok(State::Ended),
         State::Broken => Ok(State::Broken),
     }

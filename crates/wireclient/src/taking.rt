@@ -54,7 +54,7 @@ fn take_data(left: u64, mut text: Vec<u8>, piece: &[u8]) -> Result<Taken, AllocE
     })
 }
 
-/// Takes the first bytes of the piece of which nothing is told.
+/// Takes the first bytes of the piece of which nothing is emitted.
 pub(crate) fn take_in(state: State, piece: &[u8]) -> Result<Taken, AllocError>
     ensures { IfOk result (λ r. TakesIn (state_of state) piece.now r.count (state_of r.state)) }
 {

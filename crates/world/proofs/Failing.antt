@@ -1,7 +1,7 @@
 -- What fails after the settings were had.
 use Rattle.std.proofs.Common.{◌≡◌, ◌∙◌, ℕ, Result, Ok, Err, Option, None, ap, refl, subst, sym}
 use Rattle.std.specs.Result.{IsErrAnd}
-use Rattle.world.specs.Faults.{Answers, world_fault_of}
+use Rattle.world.specs.FaultViews.{Answers, world_fault_of}
 use Rattle.world.specs.declared.fault.RunFault as runs
 use Rattle.world.specs.declared.fault.RunFault.TheVariants as stop
 use Rattle.world.specs.declared.fault.WorldFault.{WorldFault}
@@ -21,12 +21,12 @@ pub never_link : {T : Type 0} (r : Result T WorldFault) (f : runs.RunFault) → 
 never_link (Ok x) f given isnt is = absurd given
 never_link (Err e) f given isnt is = not_link f isnt (sym given ∙ ap error_of is)
 
-told : (T : Type 0) (f : runs.RunFault) (fault : Option ℕ) → fault ≡ None → Answers {A = T} fault (Err (world_fault_of f))
-told T stop.Memory fault none = tt
-told T stop.Store fault none = none
-told T stop.Link fault none = none
+emitted : (T : Type 0) (f : runs.RunFault) (fault : Option ℕ) → fault ≡ None → Answers {A = T} fault (Err (world_fault_of f))
+emitted T stop.Memory fault none = tt
+emitted T stop.Store fault none = none
+emitted T stop.Link fault none = none
 
 -- it is no fault of the settings
 pub answers_run : {T : Type 0} (r : Result T WorldFault) (f : runs.RunFault) (fault : Option ℕ) → IsErrAnd r (λ e. e ≡ world_fault_of f) → fault ≡ None → Answers fault r
 answers_run (Ok x) f fault given none = absurd given
-answers_run {T} (Err e) f fault given none = subst (λ x. Answers {A = T} fault (Err x)) (sym given) (told T f fault none)
+answers_run {T} (Err e) f fault given none = subst (λ x. Answers {A = T} fault (Err x)) (sym given) (emitted T f fault none)

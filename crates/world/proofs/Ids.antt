@@ -13,13 +13,13 @@ use Rattle.api_types.specs.TypesFile.{ServedShape}
 use Rattle.history.specs.History.{History}
 use Rattle.verbs.specs.Retyping.{retyping}
 use Rattle.requests.specs.Asks.{CallDecision}
-use Rattle.httpedge.specs.Connections.{Connection, Connections, Standing, waiting, watching, ended, gone, each, is_new, written_on}
+use Rattle.httpedge.specs.Connections.{Connection, Connections, Phase, waiting, watching, ended, gone, each, is_new, written_on}
 use Rattle.httpedge.specs.Runs.{Steps}
-use Rattle.httpedge.specs.Steps.{Event, Refusal, State, opens, comes, goes, pumps, ticks, compacts, retypes, by_connection, carried_out, id_not_above, opening, received_by, refusal, start, unless_refused}
+use Rattle.httpedge.specs.Steps.{Event, Refusal, State, opens, comes, goes, pumps, ticks, compacts, retypes, by_connection, applied_event, id_not_above, opening, received_by, refusal, start, unless_refused}
 use Rattle.httpedge.proofs.Connected.{tied_same}
 use Rattle.httpedge.proofs.OtherTypes.{same_connections}
 use Rattle.recorder.proofs.Kept.{refused_same}
-use Rattle.world.specs.Seen.{reply_seen}
+use Rattle.world.specs.Views.{reply_seen}
 use Rattle.world.specs.Serving.{all_written, opened_by, written_at}
 
 -- ---- entries whose values are others
@@ -120,9 +120,9 @@ by_known s id (Some c) f stays = stays c refl
 keys_put : (s : State) (id : ℕ) (c d : Connection) → fin.get s.connections id ≡ Some c → fin.keys (fin.insert s.connections id d) ≡ fin.keys s.connections
 keys_put s id c d at = same_keys (fin.insert s.connections id d) s.connections (λ q. put_known s.connections id q c d at)
 
-received_known : (s : State) (id : ℕ) (c : Connection) (st : Standing) (bytes : List ℕ) (asked : CallDecision) → fin.get s.connections id ≡ Some c
+received_known : (s : State) (id : ℕ) (c : Connection) (st : Phase) (bytes : List ℕ) (asked : CallDecision) → fin.get s.connections id ≡ Some c
     → fin.keys (received_by s id c st bytes asked).connections ≡ fin.keys s.connections
-received_known s id c (waiting front) bytes asked at = keys_put s id c _ at
+received_known s id c (waiting prefix) bytes asked at = keys_put s id c _ at
 received_known s id c (watching w) bytes asked at = refl
 received_known s id c ended bytes asked at = refl
 received_known s id c (gone had_ended) bytes asked at = refl
@@ -134,15 +134,15 @@ still_some : {A B : Type 0} (f : A → B) (o : Option A) → is_some (option_map
 still_some f None = refl
 still_some f (Some x) = refl
 
-carried_keys : EachChanges → (s : State) (e : Event) (asked : CallDecision) → is_none (refusal s e) ≡ true → fin.keys (carried_out s e asked).connections ≡ fin.keys s.connections ++ opened_by e
+carried_keys : EachChanges → (s : State) (e : Event) (asked : CallDecision) → is_none (refusal s e) ≡ true → fin.keys (applied_event s e asked).connections ≡ fin.keys s.connections ++ opened_by e
 carried_keys law s (opens id) asked free =
     ap (map (λ e. e.0)) (fin.entries-insert nat_cmp_total s.connections id (opening s.connections)) ∙ put_last id (opening s.connections) (fin.entries s.connections) (new_by (is_new s.connections id) free)
 carried_keys law s (comes id bytes) asked free =
-    by_known s id (fin.get s.connections id) _ (λ c at. received_known s id c c.standing bytes asked at) ∙ sym (append-nil (fin.keys s.connections))
+    by_known s id (fin.get s.connections id) _ (λ c at. received_known s id c c.phase bytes asked at) ∙ sym (append-nil (fin.keys s.connections))
 carried_keys law s (goes id) asked free = by_known s id (fin.get s.connections id) _ (λ c at. keys_put s id c _ at) ∙ sym (append-nil (fin.keys s.connections))
 carried_keys law s (pumps id max) asked free = by_known s id (fin.get s.connections id) _ (λ c at. keys_put s id c _ at) ∙ sym (append-nil (fin.keys s.connections))
 carried_keys law s (ticks ms) asked free =
-    same_keys (carried_out s (ticks ms) asked).connections s.connections (λ q. ap is_some (law _ s.connections q) ∙ still_some _ (fin.get s.connections q)) ∙ sym (append-nil (fin.keys s.connections))
+    same_keys (applied_event s (ticks ms) asked).connections s.connections (λ q. ap is_some (law _ s.connections q) ∙ still_some _ (fin.get s.connections q)) ∙ sym (append-nil (fin.keys s.connections))
 carried_keys law s (compacts c) asked free = sym (append-nil (fin.keys s.connections))
 carried_keys law s (retypes file) asked free = ap fin.keys (same_connections s (retyping s.types s.machine file)) ∙ sym (append-nil (fin.keys s.connections))
 
@@ -153,7 +153,7 @@ unrefused s t (Some why) is = absurd cc
 -- an event that isn't refused opens its id, if it opens one
 pub keys_after : EachChanges → (s t : State) (e : Event) → is_none (refusal s e) ≡ true → Steps s e t → fin.keys s.connections ++ opened_by e ≡ fin.keys t.connections
 keys_after law s t e free (asked, asks, is) =
-    sym (ap (λ x. fin.keys x.connections) (is ∙ unrefused s (carried_out s e asked) (refusal s e) free) ∙ carried_keys law s e asked free)
+    sym (ap (λ x. fin.keys x.connections) (is ∙ unrefused s (applied_event s e asked) (refusal s e) free) ∙ carried_keys law s e asked free)
 
 -- a refused one changes nothing
 pub keys_stay : (s t : State) (e : Event) → is_none (refusal s e) ≡ false → Steps s e t → fin.keys s.connections ≡ fin.keys t.connections

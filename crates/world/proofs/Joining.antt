@@ -13,7 +13,7 @@ use Rattle.decoder.specs.Wanted.{Wanted}
 use Rattle.httpedge.specs.Connections.{Connection, Connections, written_on}
 use Rattle.httpedge.specs.Steps as edge
 use Rattle.reflector.specs.Client.{Cache}
-use Rattle.reflector.specs.Informer.{due}
+use Rattle.reflector.specs.InformerViews.{due}
 use Rattle.reflector.specs.Run.{closed, restarted}
 use Rattle.httpedge.proofs.Connected.{tied_same}
 use Rattle.summary.specs.Apply.{apply_request}

@@ -2,10 +2,12 @@ pub mod Asking
 pub mod AtMost
 pub mod Failing
 pub mod Ids
+pub mod Indexed
 pub mod Joining
 pub mod Marking
 pub mod Refusals
 pub mod Reports
 pub mod Shots
+pub mod States
 pub mod Texts
 pub mod Worlds

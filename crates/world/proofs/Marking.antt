@@ -13,9 +13,9 @@ use Rattle.std.proofs.lemmas.List.Elements.{filter-append}
 use Rattle.httpedge.specs.Connections.{Connection, Connections, ended_on, has_ended, written_on}
 use Rattle.httpedge.specs.Steps as edge
 use Rattle.httpedge.proofs.Connected.{tied_same}
-use Rattle.world.specs.Marks.{AreMarks, AreMarksOf, added_to, ended_of, mark_in, mark_seen}
-use Rattle.world.specs.Stepping.{added, added_on, ended_since, is_some_bytes, mark_of}
-use Rattle.world.specs.declared.server.Mark.{Mark}
+use Rattle.world.specs.Extents.{AreExtents, AreExtentsOf, added_to, ended_of, extent_in, extent_seen}
+use Rattle.world.specs.Stepping.{added, added_on, ended_since, is_some_bytes, extent_of}
+use Rattle.world.specs.declared.server.Extent.{Extent}
 
 -- ---- ids
 
@@ -50,18 +50,18 @@ one_more ids i id lt here = take_more ids i 0 lt ∙ ap (λ (k : ℕ). take i id
 
 -- ---- marks
 
-marked : (s : edge.State) (m : Mark) (id q : ℕ) (o : Option Mark) (among : Bool) (b : Bool) → eq_by_cmp nat_cmp id q ≡ b → mark_seen m ≡ mark_of s id
-    → unwrap_or (option_map mark_seen o) (0, false) ≡ cond among (mark_of s q) (0, false)
-    → unwrap_or (option_map mark_seen (cond b (Some m) o)) (0, false) ≡ cond (cond b true among) (mark_of s q) (0, false)
-marked s m id q o among true e seen before = seen ∙ ap (mark_of s) (tied_same id q e)
+marked : (s : edge.State) (m : Extent) (id q : ℕ) (o : Option Extent) (among : Bool) (b : Bool) → eq_by_cmp nat_cmp id q ≡ b → extent_seen m ≡ extent_of s id
+    → unwrap_or (option_map extent_seen o) (0, false) ≡ cond among (extent_of s q) (0, false)
+    → unwrap_or (option_map extent_seen (cond b (Some m) o)) (0, false) ≡ cond (cond b true among) (extent_of s q) (0, false)
+marked s m id q o among true e seen before = seen ∙ ap (extent_of s) (tied_same id q e)
 marked s m id q o among false e seen before = before
 
-pub marks_more : (s : edge.State) (ids : List ℕ) (i id : ℕ) (old new : BTreeMap ℕ Mark) (m : Mark) → i < length ids → id ≡ slice_index_or ids i 0
-    → ((q : ℕ) → get nat_cmp new q ≡ cond (eq_by_cmp nat_cmp id q) (Some m) (get nat_cmp old q)) → mark_seen m ≡ mark_of s id → AreMarksOf s (take i ids) old → AreMarksOf s (take (i + 1) ids) new
-marks_more s ids i id old new m lt here put seen before = λ q.
-    ap (λ (o : Option Mark). unwrap_or (option_map mark_seen o) (0, false)) (put q)
+pub extents_more : (s : edge.State) (ids : List ℕ) (i id : ℕ) (old new : BTreeMap ℕ Extent) (m : Extent) → i < length ids → id ≡ slice_index_or ids i 0
+    → ((q : ℕ) → get nat_cmp new q ≡ cond (eq_by_cmp nat_cmp id q) (Some m) (get nat_cmp old q)) → extent_seen m ≡ extent_of s id → AreExtentsOf s (take i ids) old → AreExtentsOf s (take (i + 1) ids) new
+extents_more s ids i id old new m lt here put seen before = λ q.
+    ap (λ (o : Option Extent). unwrap_or (option_map extent_seen o) (0, false)) (put q)
     ∙ marked s m id q (get nat_cmp old q) (list_any (eq_by_cmp nat_cmp q) (take i ids)) (eq_by_cmp nat_cmp id q) refl seen (before q)
-    ∙ ap (λ (b : Bool). cond b (mark_of s q) (0, false))
+    ∙ ap (λ (b : Bool). cond b (extent_of s q) (0, false))
     (ap (λ (b : Bool). cond b true (list_any (eq_by_cmp nat_cmp q) (take i ids))) (either_way id q) ∙ sym (any_more (eq_by_cmp nat_cmp q) (take i ids) id)
     ∙ ap (list_any (eq_by_cmp nat_cmp q)) (sym (one_more ids i id lt here)))
 
@@ -75,23 +75,23 @@ not_found q (e ∷ es) none =
     let parts = or_parts (eq_by_cmp nat_cmp q e.0) (list_any (eq_by_cmp nat_cmp q) (map (λ x. x.0) es)) none in
     ap (λ (b : Bool). cond b (Some e.1) (find nat_cmp q es)) parts.0 ∙ not_found q es parts.1
 
-no_mark : (s : edge.State) (q : ℕ) → fin.get s.connections q ≡ None → (0, false) ≡ mark_of s q
-no_mark s q none = sym (ap₂ (λ (xs : List ℕ) (b : Bool). (length xs, b)) (written_none none) (ended_none none))
+no_extent : (s : edge.State) (q : ℕ) → fin.get s.connections q ≡ None → (0, false) ≡ extent_of s q
+no_extent s q none = sym (ap₂ (λ (xs : List ℕ) (b : Bool). (length xs, b)) (written_none none) (ended_none none))
   where
     written_none : fin.get s.connections q ≡ None → written_on s.connections q ≡ []
     written_none e = ap (λ (o : Option Connection). unwrap_or (option_map (λ (c : Connection). c.written) o) []) e
 
     ended_none : fin.get s.connections q ≡ None → ended_on s.connections q ≡ false
-    ended_none e = ap (λ (o : Option Connection). unwrap_or (option_map (λ (c : Connection). has_ended c.standing) o) false) e
+    ended_none e = ap (λ (o : Option Connection). unwrap_or (option_map (λ (c : Connection). has_ended c.phase) o) false) e
 
-all_marked : (s : edge.State) (m : BTreeMap ℕ Mark) (q : ℕ) (b : Bool) → list_any (eq_by_cmp nat_cmp q) (fin.keys s.connections) ≡ b → mark_in m q ≡ cond b (mark_of s q) (0, false) → mark_in m q ≡ mark_of s q
+all_marked : (s : edge.State) (m : BTreeMap ℕ Extent) (q : ℕ) (b : Bool) → list_any (eq_by_cmp nat_cmp q) (fin.keys s.connections) ≡ b → extent_in m q ≡ cond b (extent_of s q) (0, false) → extent_in m q ≡ extent_of s q
 all_marked s m q true among is = is
-all_marked s m q false among is = is ∙ no_mark s q (fin.get-entries s.connections q ∙ not_found q (fin.entries s.connections) among)
+all_marked s m q false among is = is ∙ no_extent s q (fin.get-entries s.connections q ∙ not_found q (fin.entries s.connections) among)
 
-pub marks_of_all : (s : edge.State) (ids : List ℕ) (m : BTreeMap ℕ Mark) → ids ≡ fin.keys s.connections → AreMarksOf s ids m → AreMarks s m
-marks_of_all s ids m are marks = λ q.
+pub extents_of_all : (s : edge.State) (ids : List ℕ) (m : BTreeMap ℕ Extent) → ids ≡ fin.keys s.connections → AreExtentsOf s ids m → AreExtents s m
+extents_of_all s ids m are extents = λ q.
     all_marked s m q (list_any (eq_by_cmp nat_cmp q) (fin.keys s.connections)) refl
-    (marks q ∙ ap (λ (ks : List ℕ). cond (list_any (eq_by_cmp nat_cmp q) ks) (mark_of s q) (0, false)) are)
+    (extents q ∙ ap (λ (ks : List ℕ). cond (list_any (eq_by_cmp nat_cmp q) ks) (extent_of s q) (0, false)) are)
 
 -- ---- one that is kept or not
 

@@ -3,7 +3,7 @@ use Rattle.std.proofs.Common.{◌≡◌, ◌∙◌, ℕ, Bool, true, false, cond
 use Rattle.std.specs.Prelude.{is_none, is_some}
 use Rattle.httpedge.specs.Steps as edge
 use Rattle.httpedge.specs.declared.fault.HubFault.{HubFault}
-use Rattle.recorder.specs.Recorded.{TellsRefusal}
+use Rattle.recorder.specs.Recorded.{ReportsRefusal}
 use Rattle.reflector.specs.Client.{Cache}
 use Rattle.world_laws.specs.World.{ClientConnection}
 use Rattle.world.specs.Stepping.{Refusal, Refuses, by_hub, if_carried, if_connected, if_due, if_some, if_synced, unless_by_peer, unless_no_id}
@@ -16,11 +16,11 @@ none_map : (o : Option edge.Refusal) → is_none (option_map by_hub o) ≡ is_no
 none_map None = refl
 none_map (Some why) = refl
 
-pub hub_refuses : (s : edge.State) (e : edge.Event) (f : HubFault) → TellsRefusal s e (Some f) → Refuses (Some (refusal.Hub f)) (option_map by_hub (edge.refusal s e))
-hub_refuses s e f told = (ap (option_map by_hub) told.1, none_map (edge.refusal s e) ∙ sym told.0)
+pub hub_refuses : (s : edge.State) (e : edge.Event) (f : HubFault) → ReportsRefusal s e (Some f) → Refuses (Some (refusal.Hub f)) (option_map by_hub (edge.refusal s e))
+hub_refuses s e f emitted = (ap (option_map by_hub) emitted.1, none_map (edge.refusal s e) ∙ sym emitted.0)
 
-pub hub_takes : (s : edge.State) (e : edge.Event) → TellsRefusal s e None → Refuses None (option_map by_hub (edge.refusal s e))
-hub_takes s e told = sym (ap (option_map by_hub) told.1)
+pub hub_takes : (s : edge.State) (e : edge.Event) → ReportsRefusal s e None → Refuses None (option_map by_hub (edge.refusal s e))
+hub_takes s e emitted = sym (ap (option_map by_hub) emitted.1)
 
 -- ---- by the client's connection
 

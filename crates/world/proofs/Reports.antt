@@ -11,13 +11,13 @@ use Rattle.history.specs.History.{History}
 use Rattle.indexer.specs.Kept.{objects_in}
 use Rattle.indexer.specs.Objects.{Place, Stored}
 use Rattle.reflector.specs.Client.{Cache, Objects}
-use Rattle.reflector.specs.Mirrors.{Keys, keyed, with_keys}
+use Rattle.reflector.specs.MirrorViews.{Keys, keyed, with_keys}
 use Rattle.reflector.proofs.Keyed.{keyed-entries}
 use Rattle.summary.specs.Summary.{counts_in}
 use Rattle.world_laws.specs.Reports.{Report, reports_between}
 use Rattle.world.specs.Reporting.{is_due}
 use Rattle.world_laws.specs.World.{World}
-use Rattle.world.specs.Traces.{AllShow, Shows, Traces}
+use Rattle.world.specs.Shown.{AllShow, Shows, Traces}
 use Rattle.world.specs.declared.trace.Report as shown
 use Rattle.world.specs.declared.trace.Trace.{Trace}
 

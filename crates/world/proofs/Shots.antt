@@ -13,7 +13,7 @@ use Rattle.std.proofs.lemmas.List.Folds.{list_any-append}
 use Rattle.std.proofs.lemmas.Slice.Eq.{bytes_eq-Decides}
 use Rattle.indexer.specs.Keys.{key_cmp}
 use Rattle.indexer.specs.Indexer.{is_under}
-use Rattle.indexer.specs.Kept.{Held}
+use Rattle.indexer.specs.Kept.{IndexedObjects}
 use Rattle.indexer.specs.Objects.{Place, is_among, place_cmp, place_of}
 use Rattle.indexer.specs.declared.object.ObjectKey.{ObjectKey}
 use Rattle.world.specs.Shots.{IsCopied, IsPosting, ShowsIndex, is_listed, key_seen}
@@ -115,7 +115,7 @@ pub keys_next : (texts : List (Bor (List ℕ))) (i : ℕ) (d : Bor (List ℕ)) (
 keys_next texts i d done now more objects lt pushed same before =
     ap (map (λ e. string_bytes e.0)) pushed ∙ map-append (λ e. string_bytes e.0) done ((more, objects) ∷ []) ∙ ap₂ (λ (xs ys : List (List ℕ)). xs ++ ys) before (ap (λ k. k ∷ []) same) ∙ sym (map_more (λ t. t.now) texts i d lt)
 
-pub copied_next : (held : Held) (names : List (List ℕ)) (name : List ℕ) (text : List ℕ) (done now : Entries) (more : String Global) (objects : Vec ObjectKey Global) → now ≡ done ++ (more, objects) ∷ [] → string_bytes more ≡ text
+pub copied_next : (held : IndexedObjects) (names : List (List ℕ)) (name : List ℕ) (text : List ℕ) (done now : Entries) (more : String Global) (objects : Vec ObjectKey Global) → now ≡ done ++ (more, objects) ∷ [] → string_bytes more ≡ text
     → ((q : ObjectKey) → list_any (eq_by_cmp place_cmp (place_of q)) (map place_of objects.items) ≡ is_under held names name text (place_of q)) → IsStrictlySortedBy place_cmp (map place_of objects.items)
     → AllByRecursion (IsCopied held names name) done → AllByRecursion (IsCopied held names name) now
 copied_next held names name text done now more objects pushed same members ascending before =
@@ -135,7 +135,7 @@ or_first true b is = refl
 or_first false b is = absurd cc
 
 -- where each key is some object's, each has a place
-pub all_filled : (held : Held) (names : List (List ℕ)) (name : List ℕ) (es : Entries) → ((k : List ℕ) → is_among (map (λ e. string_bytes e.0) es) k ≡ true → (q : ObjectKey) × (is_under held names name k (place_of q) ≡ true))
+pub all_filled : (held : IndexedObjects) (names : List (List ℕ)) (name : List ℕ) (es : Entries) → ((k : List ℕ) → is_among (map (λ e. string_bytes e.0) es) k ≡ true → (q : ObjectKey) × (is_under held names name k (place_of q) ≡ true))
     → AllByRecursion (IsCopied held names name) es → AllByRecursion (λ e. IsPosting (key_seen e)) es
 all_filled held names name [] had all = tt
 all_filled held names name (e ∷ es) had all =
@@ -145,7 +145,7 @@ all_filled held names name (e ∷ es) had all =
 
 -- ---- all indexes
 
-pub shots_next : (held : Held) (names : List (List ℕ)) (all : List (String Global)) (i : ℕ) (item : String Global) (done now : List IndexShot) (x : IndexShot) → i < length all → item ≡ slice_index_or all i item → now ≡ done ++ x ∷ [] → string_bytes x.name ≡ string_bytes item
+pub shots_next : (held : IndexedObjects) (names : List (List ℕ)) (all : List (String Global)) (i : ℕ) (item : String Global) (done now : List IndexShot) (x : IndexShot) → i < length all → item ≡ slice_index_or all i item → now ≡ done ++ x ∷ [] → string_bytes x.name ≡ string_bytes item
     → ShowsIndex held names x → (map (λ s. string_bytes s.name) done ≡ map string_bytes (take i all)) × All (ShowsIndex held names) done
     → (map (λ s. string_bytes s.name) now ≡ map string_bytes (take (i + 1) all)) × All (ShowsIndex held names) now
 shots_next held names all i item done now x lt here pushed named shows before = (

@@ -10,24 +10,24 @@ use Rattle.httpedge.specs.Connections.{written_on}
 use Rattle.httpedge.specs.Runs as runs
 use Rattle.httpedge.specs.Steps as edge
 use Rattle.reflector.specs.Client.{Cache, Client, Objects, fresh, kept}
-use Rattle.reflector.specs.Reading.{IsRead}
-use Rattle.reflector.specs.Run.{after_cut, asked, closed, hears_all, taken}
-use Rattle.reflector.proofs.Exactly.{all_tell, closed_read, fresh_read, still_lead}
+use Rattle.reflector.specs.ReadingViews.{IsRead}
+use Rattle.reflector.specs.Run.{after_cut, asked, closed, receives_all, taken}
+use Rattle.reflector.proofs.Exactly.{all_notify, closed_read, fresh_read, still_lead}
 use Rattle.wireclient.specs.Reads.{Items}
-use Rattle.wireclient.specs.Reply.{State, Told}
+use Rattle.wireclient.specs.Reply.{State, ReplyItem}
 use Rattle.world_laws.specs.Tasks.{Task}
 use Rattle.world_laws.specs.Reports.{Report, Runs, reports_after}
 use Rattle.summary.specs.Apply.{apply_request}
 use Rattle.summary.specs.Counts.{summed_of}
 use Rattle.world_laws.specs.World.{ClientConnection, ComesInOnePiece, Cuts, Delivers, Hands, Leaves, Receives, Reconciles, Steps, TakesUnless, World, WorldEvent, after_move, reply_on}
 use Rattle.world.specs.Serving.{Left}
-use Rattle.world.specs.Standing.{IsHanded, Leads}
-use Rattle.world.proofs.AtMost.{few_closed, few_fresh, few_heard}
+use Rattle.world.specs.Represents.{IsHanded, NoticesReach}
+use Rattle.world.proofs.AtMost.{few_closed, few_fresh, few_received}
 
 -- ---- what was written grows
 
 abbrev pub Grows : Type 0
-Grows = (s t : edge.State) (h : runs.Happening) (id : ℕ) → runs.Follows s h t → (more : List ℕ) × (written_on t.connections id ≡ written_on s.connections id ++ more)
+Grows = (s t : edge.State) (h : runs.Action) (id : ℕ) → runs.Follows s h t → (more : List ℕ) × (written_on t.connections id ≡ written_on s.connections id ++ more)
 
 abbrev pub Grown : edge.State → edge.State → Type 0
 Grown s t = (id : ℕ) → (more : List ℕ) × (written_on t.connections id ≡ written_on s.connections id ++ more)
@@ -68,16 +68,16 @@ pub handed_none : (b : Bool) (bytes : List ℕ) (own : Option ClientConnection) 
 handed_none false bytes own s is = tt
 handed_none true bytes own s is = absurd cc
 
-pub closed_asks : (c : Client) → (closed c).is_asking ≡ false
-closed_asks c = go c.is_asking refl
+pub closed_asks : (c : Client) → (closed c).is_awaiting_reply ≡ false
+closed_asks c = go c.is_awaiting_reply refl
   where
-    go : (b : Bool) → c.is_asking ≡ b → (cond b (record { cache = c.cache; asks = after_cut c.asks; is_asking = false; notices = c.notices }) c).is_asking ≡ false
+    go : (b : Bool) → c.is_awaiting_reply ≡ b → (cond b (record { cache = c.cache; sync = after_cut c.sync; is_awaiting_reply = false; notices = c.notices }) c).is_awaiting_reply ≡ false
     go true is = refl
     go false is = is
 
-pub handed_over : (over : Bool) (c : Client) (bytes : List ℕ) (own : Option ClientConnection) (s : edge.State) → IsHanded c.is_asking bytes own s → IsHanded (cond over (closed c) c).is_asking bytes own s
+pub handed_over : (over : Bool) (c : Client) (bytes : List ℕ) (own : Option ClientConnection) (s : edge.State) → IsHanded c.is_awaiting_reply bytes own s → IsHanded (cond over (closed c) c).is_awaiting_reply bytes own s
 handed_over false c bytes own s h = h
-handed_over true c bytes own s h = handed_none (closed c).is_asking bytes own s (closed_asks c)
+handed_over true c bytes own s h = handed_none (closed c).is_awaiting_reply bytes own s (closed_asks c)
 
 -- ---- pieces
 
@@ -181,7 +181,7 @@ delivers w own n [] t some steps = absurd (some refl)
 delivers w own n (b ∷ bs) t some steps = (record w { hub = t }, (t, steps, refl), refl)
 
 pub hands : (wanted : Wanted) (w : World) (own : ClientConnection) (piece : List ℕ) (d : Client) → (piece ≡ [] → ⊥)
-    → Receives w.client.is_asking wanted w.client (take own.handed (reply_on w own)) piece d
+    → Receives w.client.is_awaiting_reply wanted w.client (take own.handed (reply_on w own)) piece d
     → Hands wanted w own piece (after_move (record w { client = d }) (record own { handed = own.handed + length piece }))
 hands wanted w own [] d some receives = absurd (some refl)
 hands wanted w own (b ∷ bs) d some receives = (d, receives, refl)
@@ -194,32 +194,32 @@ pub due_waits : (b : Bool) (r bytes : List ℕ) → Some bytes ≡ cond b None (
 due_waits true r bytes is = absurd cc
 due_waits false r bytes is = refl
 
-pub items_read : (reader : Option (Option State)) (b : Bool) (bytes : List ℕ) (told : List Told) → is_some reader ≡ b → b ≡ true → IsRead reader bytes told → Items bytes told
-items_read None b bytes told is asks read = let bad : false ≡ true = is ∙ asks in absurd cc
-items_read (Some reader) b bytes told is asks read = read.1
+pub items_read : (reader : Option (Option State)) (b : Bool) (bytes : List ℕ) (emitted : List ReplyItem) → is_some reader ≡ b → b ≡ true → IsRead reader bytes emitted → Items bytes emitted
+items_read None b bytes emitted is asks read = let bad : false ≡ true = is ∙ asks in absurd cc
+items_read (Some reader) b bytes emitted is asks read = read.1
 
 -- what the client receives of a piece; P: what is to be shown of the client, of the bytes that it read and of the items that it was told
-pub received : (P : Client → List ℕ → List Told → Type 0) (Q : Client → Type 0) (b : Bool) (wanted : Wanted) (c : Client) (bytes piece : List ℕ) (told : List Told) (n : ℕ) (l : ClientConnection) (s : edge.State)
-    → c.is_asking ≡ b → piece ≡ take n (drop l.handed (written_on s.connections l.id)) → (piece ≡ [] → ⊥) → IsHanded b bytes (Some l) s
-    → (b ≡ true → Items bytes told)
-    → (b ≡ true → (news : List Told) × Items (bytes ++ piece) (told ++ news) × P (hears_all wanted c news) (bytes ++ piece) (told ++ news))
-    → (b ≡ false → P c bytes told)
-    → Q c → ((news : List Told) → Q (hears_all wanted c news))
+pub received : (P : Client → List ℕ → List ReplyItem → Type 0) (Q : Client → Type 0) (b : Bool) (wanted : Wanted) (c : Client) (bytes piece : List ℕ) (emitted : List ReplyItem) (n : ℕ) (l : ClientConnection) (s : edge.State)
+    → c.is_awaiting_reply ≡ b → piece ≡ take n (drop l.handed (written_on s.connections l.id)) → (piece ≡ [] → ⊥) → IsHanded b bytes (Some l) s
+    → (b ≡ true → Items bytes emitted)
+    → (b ≡ true → (response : List ReplyItem) × Items (bytes ++ piece) (emitted ++ response) × P (receives_all wanted c response) (bytes ++ piece) (emitted ++ response))
+    → (b ≡ false → P c bytes emitted)
+    → Q c → ((response : List ReplyItem) → Q (receives_all wanted c response))
     → (d : Client) × Receives b wanted c (take l.handed (written_on s.connections l.id)) piece d
-    × ((all : List ℕ) × (items : List Told) × P d all items × IsHanded d.is_asking all (Some (record { id = l.id; unsent = l.unsent; handed = l.handed + length piece })) s × Q d)
-received P Q false wanted c bytes piece told n l s asks is some at read hear idle now more =
-    (c, refl, (bytes, told, idle refl, handed_none c.is_asking bytes (Some (record { id = l.id; unsent = l.unsent; handed = l.handed + length piece })) s asks, now))
-received P Q true wanted c bytes piece told n l s asks is some at read hear idle now more =
+    × ((all : List ℕ) × (items : List ReplyItem) × P d all items × IsHanded d.is_awaiting_reply all (Some (record { id = l.id; unsent = l.unsent; handed = l.handed + length piece })) s × Q d)
+received P Q false wanted c bytes piece emitted n l s asks is some at read receive idle now more =
+    (c, refl, (bytes, emitted, idle refl, handed_none c.is_awaiting_reply bytes (Some (record { id = l.id; unsent = l.unsent; handed = l.handed + length piece })) s asks, now))
+received P Q true wanted c bytes piece emitted n l s asks is some at read receive idle now more =
     let written = written_on s.connections l.id in
-    let h = hear refl in
+    let h = receive refl in
     let whole : bytes ++ piece ≡ take (l.handed + length piece) written = ap (λ (xs : List ℕ). xs ++ piece) at.1 ∙ joined n l.handed written piece is in (
-      hears_all wanted c h.0,
-      (told, h.0, subst (λ (xs : List ℕ). Items xs told) at.1 (read refl), subst (λ (xs : List ℕ). Items (xs ++ piece) (told ++ h.0)) at.1 h.1, refl),
+      receives_all wanted c h.0,
+      (emitted, h.0, subst (λ (xs : List ℕ). Items xs emitted) at.1 (read refl), subst (λ (xs : List ℕ). Items (xs ++ piece) (emitted ++ h.0)) at.1 h.1, refl),
       (
         bytes ++ piece,
-        told ++ h.0,
+        emitted ++ h.0,
         h.2,
-        handed_if (hears_all wanted c h.0).is_asking (bytes ++ piece) (record { id = l.id; unsent = l.unsent; handed = l.handed + length piece }) s (fits n l.handed written piece is some) whole,
+        handed_if (receives_all wanted c h.0).is_awaiting_reply (bytes ++ piece) (record { id = l.id; unsent = l.unsent; handed = l.handed + length piece }) s (fits n l.handed written piece is some) whole,
         more h.0,
       ),
     )
@@ -249,21 +249,21 @@ events_more f xs i x lt is = ap (λ y. map f (take i xs) ++ f y ∷ []) is ∙ s
 
 -- ---- the notices that wait
 
-pub leads_fresh : (wanted : Wanted) → Leads wanted fin.empty fresh
-leads_fresh wanted = record { read = fresh_read wanted; lead = (tt, refl); few = few_fresh }
+pub reaches_fresh : (wanted : Wanted) → NoticesReach wanted fin.empty fresh
+reaches_fresh wanted = record { read = fresh_read wanted; lead = (tt, refl); few = few_fresh }
 
-pub leads_heard : (wanted : Wanted) (o : Objects) (c : Client) (xs : List Told) → Leads wanted o c → Leads wanted o (hears_all wanted c xs)
-leads_heard wanted o c xs l = record { read = (all_tell wanted c xs l.read).has_read; lead = still_lead wanted o c xs l.read l.lead; few = few_heard wanted c xs l.few }
+pub reaches_received : (wanted : Wanted) (o : Objects) (c : Client) (xs : List ReplyItem) → NoticesReach wanted o c → NoticesReach wanted o (receives_all wanted c xs)
+reaches_received wanted o c xs l = record { read = (all_notify wanted c xs l.read).has_read; lead = still_lead wanted o c xs l.read l.lead; few = few_received wanted c xs l.few }
 
-pub leads_asked : (wanted : Wanted) (o : Objects) (c : Client) → Leads wanted o c → Leads wanted o (asked c)
-leads_asked wanted o c l = record { read = record { objects = l.read.objects; aside = l.read.aside }; lead = l.lead; few = l.few }
+pub reaches_asked : (wanted : Wanted) (o : Objects) (c : Client) → NoticesReach wanted o c → NoticesReach wanted o (asked c)
+reaches_asked wanted o c l = record { read = record { objects = l.read.objects; paged_list = l.read.paged_list }; lead = l.lead; few = l.few }
 
-pub leads_closed : (wanted : Wanted) (o : Objects) (c : Client) → Leads wanted o c → Leads wanted o (closed c)
-leads_closed wanted o c l = let r = closed_read wanted o c l.read l.lead in record { read = r.0; lead = r.1; few = few_closed c l.few }
+pub reaches_closed : (wanted : Wanted) (o : Objects) (c : Client) → NoticesReach wanted o c → NoticesReach wanted o (closed c)
+reaches_closed wanted o c l = let r = closed_read wanted o c l.read l.lead in record { read = r.0; lead = r.1; few = few_closed c l.few }
 
-pub leads_over : (over : Bool) (wanted : Wanted) (o : Objects) (c : Client) → Leads wanted o c → Leads wanted o (cond over (closed c) c)
-leads_over false wanted o c l = l
-leads_over true wanted o c l = leads_closed wanted o c l
+pub reaches_over : (over : Bool) (wanted : Wanted) (o : Objects) (c : Client) → NoticesReach wanted o c → NoticesReach wanted o (cond over (closed c) c)
+reaches_over false wanted o c l = l
+reaches_over true wanted o c l = reaches_closed wanted o c l
 
-pub leads_taken : (wanted : Wanted) (o : Objects) (c : Client) → Leads wanted o c → Leads wanted (kept c.cache) (taken c)
-leads_taken wanted o c l = record { read = record { objects = l.read.objects; aside = l.read.aside }; lead = (tt, refl); few = l.few }
+pub reaches_taken : (wanted : Wanted) (o : Objects) (c : Client) → NoticesReach wanted o c → NoticesReach wanted (kept c.cache) (taken c)
+reaches_taken wanted o c l = record { read = record { objects = l.read.objects; paged_list = l.read.paged_list }; lead = (tt, refl); few = l.few }

@@ -1,9 +1,10 @@
-pub mod Faults
-pub mod Marks
+pub mod FaultViews
+pub mod Extents
 pub mod Reporting
-pub mod Seen
+pub mod Views
 pub mod Serving
 pub mod Shots
-pub mod Standing
+pub mod Shown
+pub mod Represents
 pub mod Stepping
 pub mod Traces

@@ -7,7 +7,7 @@ use Rattle.std.specs.List.Sorted.{IsStrictlySortedBy}
 use Rattle.std.specs.Ordering.{eq_by_cmp, nat_cmp}
 use Rattle.std.specs.Str.{bytes_eq}
 use Rattle.indexer.specs.Indexer.{is_under}
-use Rattle.indexer.specs.Kept.{Held}
+use Rattle.indexer.specs.Kept.{IndexedObjects}
 use Rattle.indexer.specs.Objects.{Place, place_cmp, place_of}
 use Rattle.indexer.specs.declared.object.ObjectKey.{ObjectKey}
 use Rattle.world.specs.declared.trace.IndexShot.{IndexShot}
@@ -26,7 +26,7 @@ IsPosting e = IsStrictlySortedBy place_cmp e.1 × (0 < length e.1)
 
 -- the copy is the index of this name: under each key stand just the objects that have it, keys and places strictly ascend, and no key is
 -- without a place
-pub record ShowsIndex (held : Held) (names : List (List ℕ)) (s : IndexShot) : Type 0 where
+pub record ShowsIndex (held : IndexedObjects) (names : List (List ℕ)) (s : IndexShot) : Type 0 where
   pub members : (key : List ℕ) (q : ObjectKey) → is_listed key (place_of q) (map key_seen s.keys.items) ≡ is_under held names (string_bytes s.name) key (place_of q)
   pub ascending : IsStrictlySortedBy (slice_cmp nat_cmp) (map (λ e. string_bytes e.0) s.keys.items)
   pub filled : AllByRecursion (λ e. IsPosting (key_seen e)) s.keys.items
@@ -34,7 +34,7 @@ pub record ShowsIndex (held : Held) (names : List (List ℕ)) (s : IndexShot) : 
 -- ---- for private clauses
 
 -- the places beside a key strictly ascend, and are those under it in the index of this name
-abbrev pub IsCopied : Held → List (List ℕ) → List ℕ → String Global × Vec ObjectKey Global → Type 0
+abbrev pub IsCopied : IndexedObjects → List (List ℕ) → List ℕ → String Global × Vec ObjectKey Global → Type 0
 IsCopied held names name e =
     IsStrictlySortedBy place_cmp (map place_of e.1.items)
     × ((q : ObjectKey) → list_any (eq_by_cmp place_cmp (place_of q)) (map place_of e.1.items) ≡ is_under held names name (string_bytes e.0) (place_of q))

@@ -9,12 +9,12 @@ use Rattle.httpedge.specs.Steps as edge
 use Rattle.recorder.specs.Recorded as recorded
 use Rattle.indexer.specs.Objects.{Stored}
 use Rattle.reflector.specs.Client.{Cache}
-use Rattle.reflector.specs.Informer.{due}
+use Rattle.reflector.specs.InformerViews.{due}
 use Rattle.world_laws.specs.Reports.{reports_after}
 use Rattle.world_laws.specs.Tasks.{Task, client_settings}
 use Rattle.world_laws.specs.World.{ClientConnection, World, WorldEvent, is_by_peer_on, other, reply_on, request, send, to_server, to_client, cut, restart, reconcile}
-use Rattle.world.specs.Seen.{reply_seen}
-use Rattle.world.specs.Traces.{AllShow}
+use Rattle.world.specs.Views.{reply_seen}
+use Rattle.world.specs.Shown.{AllShow}
 use Rattle.world.specs.declared.refusal.Refusal as refusals
 use Rattle.world.specs.declared.refusal.Refusal.TheVariants as refusal
 use Rattle.world.specs.declared.step.Step.{Step}
@@ -106,8 +106,8 @@ opened_by task w e = if opens_own e && is_none (refusal_of task w e) then next_i
 -- ---- what is written
 
 -- how far a connection is: how many bytes were written on it, and whether it has ended
-abbrev pub mark_of : edge.State → ℕ → ℕ × Bool
-mark_of s id = (length (written_on s.connections id), ended_on s.connections id)
+abbrev pub extent_of : edge.State → ℕ → ℕ × Bool
+extent_of s id = (length (written_on s.connections id), ended_on s.connections id)
 
 -- what was written on a connection since it was so far
 abbrev pub added_on : edge.State → edge.State → ℕ → List ℕ

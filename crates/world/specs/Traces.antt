@@ -1,50 +1,74 @@
--- What a trace shows of a run.
-use Rattle.std.specs.Prelude.{◌≡◌, ℕ, List, [], ◌∷◌, map, string_bytes, ⊤}
+-- What a run shows: the whole promise of `run`, said of what it hands out.
+use Rattle.std.specs.Prelude.{◌≡◌, ◌≤◌, ℕ, List, map, string_bytes}
+use Rattle.std.specs.Cmp.Lexicographic.{slice_cmp}
 use Rattle.std.specs.FinMap as fin
-use Rattle.std.specs.List.{All}
-use Rattle.indexer.specs.Objects.{Stored, shared_of}
-use Rattle.reflector.specs.Mirrors.{keyed}
-use Rattle.reflector.specs.Standing.{keys_in}
+use Rattle.std.specs.List.{All, filter, flat_map, zip}
+use Rattle.std.specs.List.Sorted.{IsNonDecreasing}
+use Rattle.std.specs.Ordering.{nat_cmp}
+use Rattle.api_types.specs.TypesFile.{ServedShape}
+use Rattle.history.specs.History.{History}
+use Rattle.history.specs.Seen.{seen_at}
+use Rattle.indexer.specs.Objects.{Place, Stored, is_among, shared_of}
+use Rattle.line_laws.specs.Listed.{AreReadAs}
+use Rattle.reflector.specs.Client.{by_place, place_in}
 use Rattle.summary.specs.Counts.{counts_of}
 use Rattle.summary.specs.Summary.{counts_in}
-use Rattle.api_types.specs.TypesFile.{ServedShape}
-use Rattle.world_laws.specs.Reports.{AreRight, Report, Runs}
-use Rattle.world_laws.specs.Tasks.{IsTask, RunSettings, Task}
+use Rattle.world_laws.specs.Reports as reported
+use Rattle.world_laws.specs.Tasks.{IsTask, RunSettings, Task, selection, wanted_by}
 use Rattle.world_laws.specs.World.{World, WorldEvent, replies, start}
-use Rattle.world.specs.Seen.{reply_seen}
-use Rattle.world.specs.Shots.{ShowsIndex}
-use Rattle.world.specs.declared.trace.Report as shown
+use Rattle.world.specs.Views.{reply_seen}
+use Rattle.world.specs.Shots.{key_seen}
+use Rattle.world.specs.declared.trace.IndexShot.{IndexShot}
+use Rattle.world.specs.declared.trace.Report.{Report}
 use Rattle.world.specs.declared.trace.Trace.{Trace}
 
--- the report of the client's revision and objects after an event: its objects in order, each index by its name, and its counts by the label
-pub record Shows {I : Type 0} (keys : I → Stored → List (List ℕ)) (indexes : List I) (names : List (List ℕ)) (label : List ℕ) (x : shown.Report) (r : Report) : Type 0 where
-  pub event : x.event ≡ r.event
-  pub revision : x.revision ≡ r.now.revision
-  pub objects : map shared_of x.objects.items ≡ map (λ e. e.1) (fin.entries r.now.objects)
-  pub named : map (λ s. string_bytes s.name) x.indexes.items ≡ names
-  pub shots : All (ShowsIndex (keyed (keys_in keys indexes) r.now.objects) names) x.indexes.items
-  pub counts : counts_in x.counts ≡ counts_of label r.now.objects
+-- ---- a report
 
--- one for one and in order
-abbrev pub AllShow : {I : Type 0} → (I → Stored → List (List ℕ)) → List I → List (List ℕ) → List ℕ → List shown.Report → List Report → Type 0
-AllShow keys indexes names label [] [] = ⊤
-AllShow keys indexes names label [] (r ∷ rs) = ⊥
-AllShow keys indexes names label (x ∷ xs) [] = ⊥
-AllShow keys indexes names label (x ∷ xs) (r ∷ rs) = Shows keys indexes names label x r × AllShow keys indexes names label xs rs
+-- its objects, in their order
+abbrev pub objects_in : Report → List Stored
+objects_in r = map shared_of r.objects.items
 
--- all that was written on each connection, those that were opened for requests, and the reports
-pub record Traces {I : Type 0} (keys : I → Stored → List (List ℕ)) (indexes : List I) (names : List (List ℕ)) (label : List ℕ) (w : World) (told : List Report) (t : Trace) : Type 0 where
-  pub written : map reply_seen t.written.items ≡ replies w
-  pub requested : t.requested.items ≡ w.requested
-  pub reports : AllShow keys indexes names label t.reports.items told
+-- an event's number, and a revision
+abbrev pub moment_in : Report → ℕ × ℕ
+moment_in r = (r.event, r.revision)
 
--- the events lead from the start to an end, and the trace shows it: the task is that of the settings, and each report is right
-pub record IsTraceOf {I : Type 0} (keys : I → Stored → List (List ℕ)) (indexes : List I) (names : List (List ℕ)) (types : List ServedShape) (settings : RunSettings) (events : List WorldEvent) (t : Trace) : Type 0 where
+abbrev pub moment_of : reported.Report → ℕ × ℕ
+moment_of r = (r.event, r.now.revision)
+
+-- a copy of an index: its name, its keys, and under each the places of objects
+abbrev pub shot_seen : IndexShot → List ℕ × List (List ℕ × List Place)
+shot_seen s = (string_bytes s.name, map key_seen s.keys.items)
+
+-- where the objects stand that have this key, in their order
+abbrev pub places_under : (Stored → List (List ℕ)) → List Stored → List ℕ → List Place
+places_under keys objects key = map place_in (filter (λ o. is_among (keys o) key) objects)
+
+-- the index of objects by their keys: each key that some object has, with the places of all that have it
+abbrev pub index_of : (Stored → List (List ℕ)) → List Stored → fin.FinMap (slice_cmp nat_cmp) (List Place)
+index_of keys objects = fin.from_entries (map (λ key. (key, places_under keys objects key)) (flat_map keys objects))
+
+-- the report is the state of the history at its revision: just the objects of the task's type, namespace and selector that stood then, each
+-- with its text; the index of these objects by each function, under its name; and how many of them have each value of the task's label
+pub record IsStateOf {I : Type 0} (keys : I → Stored → List (List ℕ)) (functions : List I) (names : List (List ℕ)) (task : Task) (history : History) (r : Report) : Type 0 where
+  pub come : r.revision ≤ history.current
+  pub objects : AreReadAs (wanted_by task) (fin.entries (seen_at (selection task) history.changes r.revision)) (objects_in r)
+  pub indexes : map shot_seen r.indexes.items ≡ zip names (map (λ b. fin.entries (index_of (keys b) (objects_in r))) functions)
+  pub counts : counts_in r.counts ≡ counts_of task.settings.label (fin.from_entries (by_place (objects_in r)))
+
+-- ---- the run
+
+-- the task is the one of the settings, and the events lead from the start to one end. The trace has all that was written there on each
+-- connection, and the connections that requests opened. Just where the client's revision is its first or has risen there is a report, and
+-- each is a state of one history, the machine's at the end; no revision is below one that was reported before it
+pub record IsTraceOf {I : Type 0} (keys : I → Stored → List (List ℕ)) (functions : List I) (names : List (List ℕ)) (types : List ServedShape) (settings : RunSettings) (events : List WorldEvent) (t : Trace) : Type 0 where
   pub task : Task
   pub lawful : IsTask types task
   pub asked : task.settings ≡ settings
   pub end : World
-  pub reports : List Report
-  pub runs : Runs task 1 (start types) events end reports
-  pub shows : Traces keys indexes names settings.label end reports t
-  pub right : AreRight task 1 reports
+  pub reports : List reported.Report
+  pub reaches : reported.Runs task 1 (start types) events end reports
+  pub bytes : map reply_seen t.written.items ≡ replies end
+  pub ids : t.requested.items ≡ end.requested
+  pub when : map moment_in t.reports.items ≡ map moment_of reports
+  pub states : All (IsStateOf keys functions names task end.hub.machine) t.reports.items
+  pub never_falls : IsNonDecreasing (map (λ r. r.revision) t.reports.items)

@@ -1,9 +1,9 @@
 //! The client's connection: its request, and how far request and reply have come. The hub's side stands in `server`.
 
 ghost use Rattle.std.specs.Prelude.{◌≡◌, ◌≢◌, false, Err, IfOk, drop, option_map, take};
-ghost use Rattle.httpedge.specs.HubSeen.{event_of};
+ghost use Rattle.httpedge.specs.HubViews.{event_of};
 ghost use Rattle.world_laws.specs.World.{is_by_peer_on};
-ghost use Rattle.world.specs.Seen.{connection_seen};
+ghost use Rattle.world.specs.Views.{connection_seen};
 
 use crate::fault::RunFault;
 use crate::link::{Link, carried};

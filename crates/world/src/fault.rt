@@ -34,7 +34,7 @@ pub(crate) enum RunFault {
 
 impl From<RunFault> for WorldFault {
     ghost use Rattle.std.specs.Prelude.{◌≡◌};
-    ghost use Rattle.world.specs.Faults.{world_fault_of};
+    ghost use Rattle.world.specs.FaultViews.{world_fault_of};
 
     ghost from_gives = { λ f e. e ≡ world_fault_of f };
 

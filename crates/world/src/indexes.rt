@@ -4,7 +4,7 @@ ghost use Rattle.std.specs.Prelude.{◌≡◌, ◌&&◌, ℕ, List, IfOk, map, s
 ghost use Rattle.std.specs.List.{All, AllByRecursion, list_any};
 ghost use Rattle.std.specs.List.Sorted.{IsStrictlySortedBy};
 ghost use Rattle.std.specs.Ordering.{eq_by_cmp};
-ghost use Rattle.indexer.specs.Indexer.{held_of, is_under, names_of};
+ghost use Rattle.indexer.specs.Indexer.{indexed_objects_of, is_under, names_of};
 ghost use Rattle.indexer.specs.Objects.{is_among, place_cmp, place_of};
 ghost use Rattle.indexer.specs.declared.object.ObjectKey.{ObjectKey};
 ghost use Rattle.world.specs.Shots.{IsCopied, ShowsIndex, is_listed, key_seen};
@@ -41,7 +41,7 @@ fn listed_under<I: IndexBy>(
     name: &str,
     text: &str,
 ) -> Result<Vec<ObjectKey>, AllocError>
-    ensures members { IfOk result (λ v. (q : ObjectKey) → list_any (eq_by_cmp place_cmp (place_of q)) (map place_of v.items) ≡ is_under (held_of indexer.now) (names_of indexer.now) name.now text.now (place_of q)) }
+    ensures members { IfOk result (λ v. (q : ObjectKey) → list_any (eq_by_cmp place_cmp (place_of q)) (map place_of v.items) ≡ is_under (indexed_objects_of indexer.now) (names_of indexer.now) name.now text.now (place_of q)) }
     ensures ascending { IfOk result (λ v. IsStrictlySortedBy place_cmp (map place_of v.items)) }
 {
     match indexer.by_index(name, text) {
@@ -57,9 +57,9 @@ fn listed<I: IndexBy>(
     name: &str,
     texts: &[&str],
 ) -> Result<Vec<(String, Vec<ObjectKey>)>, AllocError>
-    ensures members { IfOk result (λ v. (key : List ℕ) (q : ObjectKey) → is_listed key (place_of q) (map key_seen v.items) ≡ (is_among (map (λ t. t.now) texts.now) key && is_under (held_of indexer.now) (names_of indexer.now) name.now key (place_of q))) }
+    ensures members { IfOk result (λ v. (key : List ℕ) (q : ObjectKey) → is_listed key (place_of q) (map key_seen v.items) ≡ (is_among (map (λ t. t.now) texts.now) key && is_under (indexed_objects_of indexer.now) (names_of indexer.now) name.now key (place_of q))) }
     ensures keys { IfOk result (λ v. map (λ e. string_bytes e.0) v.items ≡ map (λ t. t.now) texts.now) }
-    ensures copied { IfOk result (λ v. AllByRecursion (IsCopied (held_of indexer.now) (names_of indexer.now) name.now) v.items) }
+    ensures copied { IfOk result (λ v. AllByRecursion (IsCopied (indexed_objects_of indexer.now) (names_of indexer.now) name.now) v.items) }
 {
     let mut keys = Vec::with_capacity(alloc, texts.len())?;
     for text in texts {
@@ -77,7 +77,7 @@ fn shot_of<I: IndexBy>(
     name: &str,
 ) -> Result<IndexShot, AllocError>
     ensures named { IfOk result (λ s. string_bytes s.name ≡ name.now) }
-    ensures shows { IfOk result (ShowsIndex (held_of indexer.now) (names_of indexer.now)) }
+    ensures shows { IfOk result (ShowsIndex (indexed_objects_of indexer.now) (names_of indexer.now)) }
 {
     let texts = indexer.keys(name)?;
     let keys = listed(alloc, indexer, name, &texts)?;
@@ -91,7 +91,7 @@ pub(crate) fn shots<I: IndexBy>(
     indexer: &Indexer<I>,
 ) -> Result<Vec<IndexShot>, AllocError>
     ensures named { IfOk result (λ v. map (λ s. string_bytes s.name) v.items ≡ names_of indexer.now) }
-    ensures show { IfOk result (λ v. All (ShowsIndex (held_of indexer.now) (names_of indexer.now)) v.items) }
+    ensures show { IfOk result (λ v. All (ShowsIndex (indexed_objects_of indexer.now) (names_of indexer.now)) v.items) }
 {
     let names = indexer.index_names();
     let mut all = Vec::with_capacity(alloc, names.len())?;

@@ -2,18 +2,18 @@
 
 ghost use Rattle.std.specs.Prelude.{◌≡◌, ◌≢◌, Err, IfOk, Option, map, option_map};
 ghost use Rattle.std.specs.Option.{option_to_list};
-ghost use Rattle.indexer.specs.Indexer.{held_of};
+ghost use Rattle.indexer.specs.Indexer.{indexed_objects_of};
 ghost use Rattle.indexer.specs.Kept.{objects_in};
 ghost use Rattle.indexer.specs.Objects.{shared_of};
 ghost use Rattle.reflector.specs.Client.{Cache, kept};
-ghost use Rattle.reflector.specs.Informer.{indexes_in, names_in};
+ghost use Rattle.reflector.specs.InformerViews.{indexes_in, names_in};
 ghost use Rattle.summary.specs.Summary.{counts_in, summed};
 ghost use Rattle.world_laws.specs.Reports.{reports_between};
 ghost use Rattle.world_laws.specs.Tasks.{Task};
 ghost use Rattle.world_laws.specs.World as worlds;
 ghost use Rattle.world.specs.Reporting.{is_due};
-ghost use Rattle.world.specs.Standing.{WorldStands};
-ghost use Rattle.world.specs.Traces.{AllShow};
+ghost use Rattle.world.specs.Represents.{WorldRepresents};
+ghost use Rattle.world.specs.Shown.{AllShow};
 
 use crate::fault::RunFault;
 use crate::indexes::shots;
@@ -41,7 +41,7 @@ fn objects_of<I: IndexBy>(
     alloc: Global,
     indexer: &Indexer<I>,
 ) -> Result<Vec<Rc<Object>>, AllocError>
-    ensures { IfOk result (λ v. map shared_of v.items ≡ map (λ e. e.1) (objects_in (held_of indexer.now))) }
+    ensures { IfOk result (λ v. map shared_of v.items ≡ map (λ e. e.1) (objects_in (indexed_objects_of indexer.now))) }
 {
     let pairs = indexer.objects()?;
     shares(alloc, &pairs)
@@ -70,7 +70,7 @@ pub(crate) fn report<I: IndexBy>(
     before: Option<u64>,
     event: usize,
 ) -> Result<Option<Report>, RunFault>
-    ensures reports { (task : Task) (was : Option Cache) (w : worlds.World) → WorldStands (λ b s. I.keys b s) task (kept w.client.cache) world.now w → before ≡ option_map (λ now. now.revision) was
+    ensures reports { (task : Task) (was : Option Cache) (w : worlds.World) → WorldRepresents (λ b s. I.keys b s) task (kept w.client.cache) world.now w → before ≡ option_map (λ now. now.revision) was
         → IfOk result (λ r. AllShow (λ b s. I.keys b s) (indexes_in world.now.client) (names_in world.now.client) task.settings.label (option_to_list r) (reports_between event w.hub.machine was w.client.cache)) }
     ensures link { result ≢ Err RunFault.Link }
 {

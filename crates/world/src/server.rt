@@ -6,13 +6,13 @@ ghost use Rattle.std.specs.List.{filter};
 ghost use Rattle.api_types.specs.Served.{types_view};
 ghost use Rattle.history.specs.History.{fresh};
 ghost use Rattle.httpedge.specs.Connections.{ended_on, next_id, written_on};
-ghost use Rattle.httpedge.specs.HubSeen.{event_of};
+ghost use Rattle.httpedge.specs.HubViews.{event_of};
 ghost use Rattle.httpedge.specs.Runs.{Steps};
 ghost use Rattle.httpedge.specs.Steps as edge;
-ghost use Rattle.recorder.specs.Recorded.{Records, TellsRefusal};
-ghost use Rattle.world.specs.Seen.{connection_seen, reply_seen};
+ghost use Rattle.recorder.specs.Recorded.{RecorderRepresents, ReportsRefusal};
+ghost use Rattle.world.specs.Views.{connection_seen, reply_seen};
 ghost use Rattle.world.specs.Serving.{Left, Serves, all_written, is_over_in, opened_by, written_at};
-ghost use Rattle.world.specs.Marks.{AreMarks, AreMarksOf, added_to, ended_of, mark_in, mark_seen};
+ghost use Rattle.world.specs.Extents.{AreExtents, AreExtentsOf, added_to, ended_of, extent_in, extent_seen};
 ghost use Rattle.world.specs.Stepping.{added, ended_since, is_some_bytes};
 
 use crate::connection::ClientConnection;
@@ -48,7 +48,7 @@ fn replies_of(
     recorder: &Recorder,
     ids: &[u64],
 ) -> Result<Vec<(u64, Vec<u8>)>, AllocError>
-    ensures { (s : edge.State) → Records recorder.now s → IfOk result (λ v. map reply_seen v.items ≡ map (written_at s) ids.now) }
+    ensures { (s : edge.State) → RecorderRepresents recorder.now s → IfOk result (λ v. map reply_seen v.items ≡ map (written_at s) ids.now) }
 {
     let mut all = Vec::with_capacity(alloc, ids.len())?;
     for id in ids {
@@ -60,7 +60,7 @@ fn replies_of(
 
 /// How far a connection is.
 #[derive(Clone, Copy, Debug)]
-pub(crate) struct Mark {
+pub(crate) struct Extent {
     /// How many bytes were written on it.
     pub(crate) written: usize,
     /// Whether it has ended.
@@ -68,31 +68,31 @@ pub(crate) struct Mark {
 }
 
 /// How far each of these connections is.
-fn marks_of(
+fn extents_of(
     alloc: Global,
     recorder: &Recorder,
     ids: &[u64],
-) -> Result<BTreeMap<u64, Mark>, AllocError>
-    ensures { (s : edge.State) → Records recorder.now s → IfOk result (AreMarksOf s ids.now) }
+) -> Result<BTreeMap<u64, Extent>, AllocError>
+    ensures { (s : edge.State) → RecorderRepresents recorder.now s → IfOk result (AreExtentsOf s ids.now) }
 {
-    let mut marks = BTreeMap::new(alloc);
+    let mut extents = BTreeMap::new(alloc);
     for id in ids {
-        let mark = Mark {
+        let extent = Extent {
             written: recorder.written(*id).len(),
             ended: recorder.ended(*id),
         };
-        marks.insert(*id, mark)?;
+        extents.insert(*id, extent)?;
     }
-    Ok(marks)
+    Ok(extents)
 }
 
 /// How far a connection was; one that there was none of had nothing written on it.
-fn mark_in(since: &BTreeMap<u64, Mark>, id: u64) -> Mark
-    ensures { mark_seen result ≡ mark_in since.now id }
+fn extent_in(since: &BTreeMap<u64, Extent>, id: u64) -> Extent
+    ensures { extent_seen result ≡ extent_in since.now id }
 {
     match since.get(&id) {
-        Some(mark) => *mark,
-        None => Mark {
+        Some(extent) => *extent,
+        None => Extent {
             written: 0,
             ended: false,
         },
@@ -128,13 +128,13 @@ fn added_since(
     alloc: Global,
     recorder: &Recorder,
     ids: &[u64],
-    since: &BTreeMap<u64, Mark>,
+    since: &BTreeMap<u64, Extent>,
 ) -> Result<Vec<(u64, Vec<u8>)>, AllocError>
-    ensures { (t : edge.State) → Records recorder.now t → IfOk result (λ v. map reply_seen v.items ≡ added_to t (mark_in since.now) ids.now) }
+    ensures { (t : edge.State) → RecorderRepresents recorder.now t → IfOk result (λ v. map reply_seen v.items ≡ added_to t (extent_in since.now) ids.now) }
 {
     let mut all = Vec::new(alloc);
     for id in ids {
-        let from = mark_in(since, *id).written;
+        let from = extent_in(since, *id).written;
         push_added(alloc, &mut all, *id, rest_of(recorder.written(*id), from))?;
     }
     Ok(all)
@@ -167,13 +167,13 @@ fn ended_since(
     alloc: Global,
     recorder: &Recorder,
     ids: &[u64],
-    since: &BTreeMap<u64, Mark>,
+    since: &BTreeMap<u64, Extent>,
 ) -> Result<Vec<u64>, AllocError>
-    ensures { (t : edge.State) → Records recorder.now t → IfOk result (λ v. v.items ≡ ended_of t (mark_in since.now) ids.now) }
+    ensures { (t : edge.State) → RecorderRepresents recorder.now t → IfOk result (λ v. v.items ≡ ended_of t (extent_in since.now) ids.now) }
 {
     let mut all = Vec::new(alloc);
     for id in ids {
-        let had_ended = mark_in(since, *id).ended;
+        let had_ended = extent_in(since, *id).ended;
         push_ended(&mut all, *id, had_ended, recorder.ended(*id))?;
     }
     Ok(all)
@@ -195,7 +195,7 @@ impl Server {
     /// Hands the hub an event: why it was refused, if it was. A refused one changes nothing.
     pub(crate) fn on(&mut self, event: &Event) -> Result<Option<HubFault>, RecorderFault>
         ensures steps { (s : edge.State) → Serves self.old s → OnOk result ((t : edge.State) × Steps s (event_of event.now) t × Serves self.new t) }
-        ensures refused { (s : edge.State) → Serves self.old s → IfOk result (TellsRefusal s (event_of event.now)) }
+        ensures refused { (s : edge.State) → Serves self.old s → IfOk result (ReportsRefusal s (event_of event.now)) }
     {
         httpedge::each_changes();
         match self.recorder.on(event)? {
@@ -258,25 +258,25 @@ impl Server {
     }
 
     /// How far each connection is, by its id.
-    pub(crate) fn marks(&self) -> Result<BTreeMap<u64, Mark>, AllocError>
-        ensures { (s : edge.State) → Serves self.now s → IfOk result (AreMarks s) }
+    pub(crate) fn extents(&self) -> Result<BTreeMap<u64, Extent>, AllocError>
+        ensures { (s : edge.State) → Serves self.now s → IfOk result (AreExtents s) }
     {
-        marks_of(self.alloc, &self.recorder, &self.ids)
+        extents_of(self.alloc, &self.recorder, &self.ids)
     }
 
     /// What was written on each connection since they were so far, where something was, by their ids.
     pub(crate) fn added(
         &self,
-        since: &BTreeMap<u64, Mark>,
+        since: &BTreeMap<u64, Extent>,
     ) -> Result<Vec<(u64, Vec<u8>)>, AllocError>
-        ensures { (s t : edge.State) → Serves self.now t → AreMarks s since.now → IfOk result (λ v. map reply_seen v.items ≡ added s t) }
+        ensures { (s t : edge.State) → Serves self.now t → AreExtents s since.now → IfOk result (λ v. map reply_seen v.items ≡ added s t) }
     {
         added_since(self.alloc, &self.recorder, &self.ids, since)
     }
 
     /// The connections that ended since they were so far, by their ids.
-    pub(crate) fn ended(&self, since: &BTreeMap<u64, Mark>) -> Result<Vec<u64>, AllocError>
-        ensures { (s t : edge.State) → Serves self.now t → AreMarks s since.now → IfOk result (λ v. v.items ≡ ended_since s t) }
+    pub(crate) fn ended(&self, since: &BTreeMap<u64, Extent>) -> Result<Vec<u64>, AllocError>
+        ensures { (s t : edge.State) → Serves self.now t → AreExtents s since.now → IfOk result (λ v. v.items ≡ ended_since s t) }
     {
         ended_since(self.alloc, &self.recorder, &self.ids, since)
     }

@@ -7,12 +7,12 @@ ghost use Rattle.selector.specs.Grammar.{parse_selector};
 ghost use Rattle.indexer.specs.Indexer.{indexes_of, names_of};
 ghost use Rattle.indexer.specs.Names.{are_distinct};
 ghost use Rattle.reflector.specs.Client.{fresh};
-ghost use Rattle.reflector.specs.Faults.{is_page};
-ghost use Rattle.reflector.specs.Informer.{Runs, settings_in};
+ghost use Rattle.reflector.specs.Faults.{is_page_size};
+ghost use Rattle.reflector.specs.InformerViews.{InformerRepresents, settings_in};
 ghost use Rattle.world_laws.specs.Tasks.{client_settings, or_fault, settings_fault};
-ghost use Rattle.world.specs.Faults.{Refuses};
-ghost use Rattle.world.specs.Seen.{IsSourceOf, settings_seen};
-ghost use Rattle.world.specs.Standing.{setup_in};
+ghost use Rattle.world.specs.FaultViews.{Refuses};
+ghost use Rattle.world.specs.Views.{IsSourceOf, settings_seen};
+ghost use Rattle.world.specs.Represents.{setup_in};
 
 use crate::fault::WorldFault;
 use api_types::Types;
@@ -41,16 +41,16 @@ pub struct Settings {
     pub summary: (String, String),
 }
 
-fn is_page(size: u32) -> bool
-    ensures { result ≡ is_page size }
+fn is_page_size(size: u32) -> bool
+    ensures { result ≡ is_page_size size }
 {
     1 <= size && size <= MAX_PAGE
 }
 
 fn check_page(size: u32) -> Result<(), WorldFault>
-    ensures { Refuses (or_fault 1 (is_page size) None) result }
+    ensures { Refuses (or_fault 1 (is_page_size size) None) result }
 {
-    if !is_page(size) {
+    if !is_page_size(size) {
         return Err(WorldFault::Settings(1));
     }
     Ok(())
@@ -111,7 +111,7 @@ pub(crate) fn client_of<I: IndexBy>(
     indexes: Vec<I>,
 ) -> Result<Informer<I>, WorldFault>
     ensures fault { Refuses (settings_fault (types_view types.now) (map (λ b. I.title b) indexes.items) (settings_seen settings.now)) result }
-    ensures fresh { IfOk result (λ i. Runs (λ b s. I.keys b s) i fresh [] []) }
+    ensures fresh { IfOk result (λ i. InformerRepresents (λ b s. I.keys b s) i fresh [] []) }
     ensures settings { (t : ServedShape) → slice_get (types_view types.now) settings.now.kind ≡ Some t → IfOk result (λ i. settings_in i ≡ client_settings (record { settings = settings_seen settings.now; t = t; requirements = [] })) }
     ensures setup { IfOk result (λ i. setup_in i ≡ record { settings = settings_in i; indexes = indexes.items; names = map (λ b. I.title b) indexes.items }) }
 {

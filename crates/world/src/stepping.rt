@@ -3,12 +3,12 @@
 ghost use Rattle.std.specs.Prelude.{◌≡◌, ◌≢◌, ◌&&◌, ◌++◌, ℕ, false, Err, IfOk, None, Option, if◌then◌else◌, is_none};
 ghost use Rattle.httpedge.specs.Connections.{written_on};
 ghost use Rattle.reflector.specs.Client.{kept};
-ghost use Rattle.reflector.specs.Informer.{indexes_in, names_in};
+ghost use Rattle.reflector.specs.InformerViews.{indexes_in, names_in};
 ghost use Rattle.world_laws.specs.Tasks.{Task};
 ghost use Rattle.world_laws.specs.World as worlds;
-ghost use Rattle.world.specs.Faults.{Answers};
-ghost use Rattle.world.specs.Seen.{event_seen};
-ghost use Rattle.world.specs.Standing.{WorldStands, setup_in};
+ghost use Rattle.world.specs.FaultViews.{Answers};
+ghost use Rattle.world.specs.Views.{event_seen};
+ghost use Rattle.world.specs.Represents.{WorldRepresents, setup_in};
 ghost use Rattle.world.specs.Stepping.{Refuses, ShowsStep, added, joined_on, opens_own};
 ghost use Rattle.world.specs.Stepping as stepping;
 
@@ -68,19 +68,19 @@ fn step_of<I: IndexBy, L: Link>(
     event: &WorldEvent,
     link: &mut L,
 ) -> Result<Step, RunFault>
-    ensures steps { (task : Task) (w : worlds.World) → WorldStands (λ b s. I.keys b s) task (kept w.client.cache) world.old w
-        → IfOk result (λ x. (v : worlds.World) × worlds.Steps task w (event_seen event.now) v × WorldStands (λ b s. I.keys b s) task (kept v.client.cache) world.new v
+    ensures steps { (task : Task) (w : worlds.World) → WorldRepresents (λ b s. I.keys b s) task (kept w.client.cache) world.old w
+        → IfOk result (λ x. (v : worlds.World) × worlds.Steps task w (event_seen event.now) v × WorldRepresents (λ b s. I.keys b s) task (kept v.client.cache) world.new v
         × ShowsStep (λ b s. I.keys b s) (indexes_in world.old.client) (names_in world.old.client) task number w (event_seen event.now) v x) }
     ensures setup { setup_in world.new.client ≡ setup_in world.old.client }
     ensures link { L.may_fail ≡ false → result ≢ Err RunFault.Link }
 {
-    let marks = world.server.marks()?;
+    let extents = world.server.extents()?;
     let next = world.server.next_id();
     let before = world.client.revision();
     let refused = world.take(event, link)?;
     let report = report(world, before, number)?;
-    let written = world.server.added(&marks)?;
-    let ended = world.server.ended(&marks)?;
+    let written = world.server.added(&extents)?;
+    let ended = world.server.ended(&extents)?;
     Ok(Step {
         refused,
         opened: opened_by(event, refused, next),
@@ -99,8 +99,8 @@ impl<I: IndexBy> World<I> {
         event: &WorldEvent,
         link: &mut L,
     ) -> Result<Step, WorldFault>
-        ensures steps { (task : Task) (w : worlds.World) → WorldStands (λ b s. I.keys b s) task (kept w.client.cache) self.old w
-            → IfOk result (λ x. (v : worlds.World) × worlds.Steps task w (event_seen event.now) v × WorldStands (λ b s. I.keys b s) task (kept v.client.cache) self.new v
+        ensures steps { (task : Task) (w : worlds.World) → WorldRepresents (λ b s. I.keys b s) task (kept w.client.cache) self.old w
+            → IfOk result (λ x. (v : worlds.World) × worlds.Steps task w (event_seen event.now) v × WorldRepresents (λ b s. I.keys b s) task (kept v.client.cache) self.new v
             × ShowsStep (λ b s. I.keys b s) (indexes_in self.old.client) (names_in self.old.client) task number w (event_seen event.now) v x) }
         ensures setup { setup_in self.new.client ≡ setup_in self.old.client }
         ensures settings { Answers None result }

@@ -2,13 +2,13 @@
 
 ghost use Rattle.std.specs.Prelude.{◌≡◌, ◌≢◌, ℕ, List, if◌then◌else◌, option_map};
 ghost use Rattle.httpedge.specs.Steps as edge;
-ghost use Rattle.wireclient.specs.Reply.{Told};
+ghost use Rattle.wireclient.specs.Reply.{ReplyItem};
 ghost use Rattle.reflector.specs.Client.{Client};
-ghost use Rattle.reflector.specs.Informer as informers;
+ghost use Rattle.reflector.specs.InformerViews as informers;
 ghost use Rattle.reflector.specs.Run.{closed};
 ghost use Rattle.world.specs.Serving.{Serves, is_over_in};
-ghost use Rattle.world.specs.Standing.{setup_in};
-ghost use Rattle.recorder.specs.Recorded.{TellsRefusal};
+ghost use Rattle.world.specs.Represents.{setup_in};
+ghost use Rattle.recorder.specs.Recorded.{ReportsRefusal};
 ghost use Rattle.world.specs.Stepping.{Refuses, by_hub};
 
 use crate::connection::{ClientConnection, is_by_peer_on, next_of_request, next_piece};
@@ -42,7 +42,7 @@ pub struct World<I: Drop> {
 
 /// A refusal of the hub.
 fn by_hub(fault: Option<HubFault>) -> Option<Refusal>
-    ensures { (s : edge.State) (e : edge.Event) → TellsRefusal s e fault → Refuses result (option_map by_hub (edge.refusal s e)) }
+    ensures { (s : edge.State) (e : edge.Event) → ReportsRefusal s e fault → Refuses result (option_map by_hub (edge.refusal s e)) }
 {
     match fault {
         Some(fault) => Some(Refusal::Hub(fault)),
@@ -52,8 +52,8 @@ fn by_hub(fault: Option<HubFault>) -> Option<Refusal>
 
 /// Tells the client that its connection is closed, where the reply is over.
 fn close_if_over<I: IndexBy>(server: &Server, client: &mut Informer<I>, id: u64, handed: usize)
-    ensures closes { (s : edge.State) (c : Client) (bytes : List ℕ) (told : List Told) → Serves server.now s → informers.Runs (λ b s. I.keys b s) client.old c bytes told
-        → informers.Runs (λ b s. I.keys b s) client.new (if is_over_in s id handed then closed c else c) bytes told }
+    ensures closes { (s : edge.State) (c : Client) (bytes : List ℕ) (emitted : List ReplyItem) → Serves server.now s → informers.InformerRepresents (λ b s. I.keys b s) client.old c bytes emitted
+        → informers.InformerRepresents (λ b s. I.keys b s) client.new (if is_over_in s id handed then closed c else c) bytes emitted }
     ensures setup { setup_in client.new ≡ setup_in client.old }
 {
     if server.is_over(id, handed) {
@@ -65,15 +65,15 @@ impl<I: IndexBy> World<I> {
     ghost use Rattle.std.specs.Prelude.{◌≡◌, ◌≢◌, false, map, Err, IfOk, None, OnOk};
     ghost use Rattle.api_types.specs.Served.{types_view};
     ghost use Rattle.std.specs.FinMap as fin;
-    ghost use Rattle.httpedge.specs.HubSeen.{event_of};
+    ghost use Rattle.httpedge.specs.HubViews.{event_of};
     ghost use Rattle.reflector.specs.Client.{Objects, kept};
-    ghost use Rattle.reflector.specs.Informer.{indexes_in, names_in};
+    ghost use Rattle.reflector.specs.InformerViews.{indexes_in, names_in};
     ghost use Rattle.world_laws.specs.Tasks.{IsTask, Task, settings_fault};
     ghost use Rattle.world_laws.specs.World as worlds;
     ghost use Rattle.world_laws.specs.World.{Steps};
-    ghost use Rattle.world.specs.Faults.{Answers};
-    ghost use Rattle.world.specs.Seen.{event_seen, settings_seen};
-    ghost use Rattle.world.specs.Standing.{WorldStands, settled, setup_in};
+    ghost use Rattle.world.specs.FaultViews.{Answers};
+    ghost use Rattle.world.specs.Views.{event_seen, settings_seen};
+    ghost use Rattle.world.specs.Represents.{WorldRepresents, settled, setup_in};
     ghost use Rattle.httpedge.specs.Connections.{next_id};
     ghost use Rattle.world.specs.Stepping.{opens_own, refusal_of};
 
@@ -84,7 +84,7 @@ impl<I: IndexBy> World<I> {
         settings: Settings,
         indexes: Vec<I>,
     ) -> Result<World<I>, WorldFault>
-        ensures stands { IfOk result (λ x. (task : Task) × IsTask (types_view types) task × (task.settings ≡ settings_seen settings) × WorldStands (λ b s. I.keys b s) task fin.empty x (worlds.start (types_view types))) }
+        ensures represents { IfOk result (λ x. (task : Task) × IsTask (types_view types) task × (task.settings ≡ settings_seen settings) × WorldRepresents (λ b s. I.keys b s) task fin.empty x (worlds.start (types_view types))) }
         ensures settings { Answers (settings_fault (types_view types) (map (λ b. I.title b) indexes.items) (settings_seen settings)) result }
         ensures indexes { IfOk result (λ x. indexes_in x.client ≡ indexes.items) }
         ensures names { IfOk result (λ x. names_in x.client ≡ map (λ b. I.title b) indexes.items) }
@@ -118,9 +118,9 @@ impl<I: IndexBy> World<I> {
     }
 
     fn other(&mut self, event: &Event) -> Result<Option<Refusal>, RunFault>
-        ensures happens { (task : Task) (o : Objects) (w : worlds.World) → WorldStands (λ b s. I.keys b s) task o self.old w
-            → OnOk result ((v : worlds.World) × worlds.Happens task w (worlds.other (event_of event.now)) v × WorldStands (λ b s. I.keys b s) task o self.new v) }
-        ensures refused { (task : Task) (o : Objects) (w : worlds.World) → WorldStands (λ b s. I.keys b s) task o self.old w → IfOk result (λ r. Refuses r (refusal_of task w (worlds.other (event_of event.now)))) }
+        ensures happens { (task : Task) (o : Objects) (w : worlds.World) → WorldRepresents (λ b s. I.keys b s) task o self.old w
+            → OnOk result ((v : worlds.World) × worlds.Happens task w (worlds.other (event_of event.now)) v × WorldRepresents (λ b s. I.keys b s) task o self.new v) }
+        ensures refused { (task : Task) (o : Objects) (w : worlds.World) → WorldRepresents (λ b s. I.keys b s) task o self.old w → IfOk result (λ r. Refuses r (refusal_of task w (worlds.other (event_of event.now)))) }
         ensures setup { setup_in self.new.client ≡ setup_in self.old.client }
         ensures link { result ≢ Err RunFault.Link }
     {
@@ -132,9 +132,9 @@ impl<I: IndexBy> World<I> {
     }
 
     fn request(&mut self, bytes: &[u8]) -> Result<Option<Refusal>, RunFault>
-        ensures happens { (task : Task) (o : Objects) (w : worlds.World) → WorldStands (λ b s. I.keys b s) task o self.old w
-            → OnOk result ((v : worlds.World) × worlds.Happens task w (worlds.request bytes.now) v × WorldStands (λ b s. I.keys b s) task o self.new v) }
-        ensures refused { (task : Task) (o : Objects) (w : worlds.World) → WorldStands (λ b s. I.keys b s) task o self.old w → IfOk result (λ r. Refuses r (refusal_of task w (worlds.request bytes.now))) }
+        ensures happens { (task : Task) (o : Objects) (w : worlds.World) → WorldRepresents (λ b s. I.keys b s) task o self.old w
+            → OnOk result ((v : worlds.World) × worlds.Happens task w (worlds.request bytes.now) v × WorldRepresents (λ b s. I.keys b s) task o self.new v) }
+        ensures refused { (task : Task) (o : Objects) (w : worlds.World) → WorldRepresents (λ b s. I.keys b s) task o self.old w → IfOk result (λ r. Refuses r (refusal_of task w (worlds.request bytes.now))) }
         ensures setup { setup_in self.new.client ≡ setup_in self.old.client }
         ensures link { result ≢ Err RunFault.Link }
     {
@@ -149,9 +149,9 @@ impl<I: IndexBy> World<I> {
     }
 
     fn send(&mut self) -> Result<Option<Refusal>, RunFault>
-        ensures happens { (task : Task) (o : Objects) (w : worlds.World) → WorldStands (λ b s. I.keys b s) task o self.old w
-            → OnOk result ((v : worlds.World) × worlds.Happens task w worlds.send v × WorldStands (λ b s. I.keys b s) task o self.new v) }
-        ensures refused { (task : Task) (o : Objects) (w : worlds.World) → WorldStands (λ b s. I.keys b s) task o self.old w → IfOk result (λ r. Refuses r (refusal_of task w worlds.send)) }
+        ensures happens { (task : Task) (o : Objects) (w : worlds.World) → WorldRepresents (λ b s. I.keys b s) task o self.old w
+            → OnOk result ((v : worlds.World) × worlds.Happens task w worlds.send v × WorldRepresents (λ b s. I.keys b s) task o self.new v) }
+        ensures refused { (task : Task) (o : Objects) (w : worlds.World) → WorldRepresents (λ b s. I.keys b s) task o self.old w → IfOk result (λ r. Refuses r (refusal_of task w worlds.send)) }
         ensures setup { setup_in self.new.client ≡ setup_in self.old.client }
         ensures link { result ≢ Err RunFault.Link }
     {
@@ -173,9 +173,9 @@ impl<I: IndexBy> World<I> {
     }
 
     fn to_server<L: Link>(&mut self, n: usize, link: &mut L) -> Result<Option<Refusal>, RunFault>
-        ensures happens { (task : Task) (o : Objects) (w : worlds.World) → WorldStands (λ b s. I.keys b s) task o self.old w
-            → OnOk result ((v : worlds.World) × worlds.Happens task w (worlds.to_server n) v × WorldStands (λ b s. I.keys b s) task o self.new v) }
-        ensures refused { (task : Task) (o : Objects) (w : worlds.World) → WorldStands (λ b s. I.keys b s) task o self.old w → IfOk result (λ r. Refuses r (refusal_of task w (worlds.to_server n))) }
+        ensures happens { (task : Task) (o : Objects) (w : worlds.World) → WorldRepresents (λ b s. I.keys b s) task o self.old w
+            → OnOk result ((v : worlds.World) × worlds.Happens task w (worlds.to_server n) v × WorldRepresents (λ b s. I.keys b s) task o self.new v) }
+        ensures refused { (task : Task) (o : Objects) (w : worlds.World) → WorldRepresents (λ b s. I.keys b s) task o self.old w → IfOk result (λ r. Refuses r (refusal_of task w (worlds.to_server n))) }
         ensures setup { setup_in self.new.client ≡ setup_in self.old.client }
         ensures link { L.may_fail ≡ false → result ≢ Err RunFault.Link }
     {
@@ -194,9 +194,9 @@ impl<I: IndexBy> World<I> {
     }
 
     fn to_client<L: Link>(&mut self, n: usize, link: &mut L) -> Result<Option<Refusal>, RunFault>
-        ensures happens { (task : Task) (o : Objects) (w : worlds.World) → WorldStands (λ b s. I.keys b s) task o self.old w
-            → OnOk result ((v : worlds.World) × worlds.Happens task w (worlds.to_client n) v × WorldStands (λ b s. I.keys b s) task o self.new v) }
-        ensures refused { (task : Task) (o : Objects) (w : worlds.World) → WorldStands (λ b s. I.keys b s) task o self.old w → IfOk result (λ r. Refuses r (refusal_of task w (worlds.to_client n))) }
+        ensures happens { (task : Task) (o : Objects) (w : worlds.World) → WorldRepresents (λ b s. I.keys b s) task o self.old w
+            → OnOk result ((v : worlds.World) × worlds.Happens task w (worlds.to_client n) v × WorldRepresents (λ b s. I.keys b s) task o self.new v) }
+        ensures refused { (task : Task) (o : Objects) (w : worlds.World) → WorldRepresents (λ b s. I.keys b s) task o self.old w → IfOk result (λ r. Refuses r (refusal_of task w (worlds.to_client n))) }
         ensures setup { setup_in self.new.client ≡ setup_in self.old.client }
         ensures link { L.may_fail ≡ false → result ≢ Err RunFault.Link }
     {
@@ -215,9 +215,9 @@ impl<I: IndexBy> World<I> {
     }
 
     fn cut(&mut self) -> Result<Option<Refusal>, RunFault>
-        ensures happens { (task : Task) (o : Objects) (w : worlds.World) → WorldStands (λ b s. I.keys b s) task o self.old w
-            → OnOk result ((v : worlds.World) × worlds.Happens task w worlds.cut v × WorldStands (λ b s. I.keys b s) task o self.new v) }
-        ensures refused { (task : Task) (o : Objects) (w : worlds.World) → WorldStands (λ b s. I.keys b s) task o self.old w → IfOk result (λ r. Refuses r (refusal_of task w worlds.cut)) }
+        ensures happens { (task : Task) (o : Objects) (w : worlds.World) → WorldRepresents (λ b s. I.keys b s) task o self.old w
+            → OnOk result ((v : worlds.World) × worlds.Happens task w worlds.cut v × WorldRepresents (λ b s. I.keys b s) task o self.new v) }
+        ensures refused { (task : Task) (o : Objects) (w : worlds.World) → WorldRepresents (λ b s. I.keys b s) task o self.old w → IfOk result (λ r. Refuses r (refusal_of task w worlds.cut)) }
         ensures setup { setup_in self.new.client ≡ setup_in self.old.client }
         ensures link { result ≢ Err RunFault.Link }
     {
@@ -231,9 +231,9 @@ impl<I: IndexBy> World<I> {
     }
 
     fn restart(&mut self) -> Result<Option<Refusal>, RunFault>
-        ensures happens { (task : Task) (o : Objects) (w : worlds.World) → WorldStands (λ b s. I.keys b s) task o self.old w
-            → OnOk result ((v : worlds.World) × worlds.Happens task w worlds.restart v × WorldStands (λ b s. I.keys b s) task fin.empty self.new v) }
-        ensures refused { (task : Task) (o : Objects) (w : worlds.World) → WorldStands (λ b s. I.keys b s) task o self.old w → IfOk result (λ r. Refuses r (refusal_of task w worlds.restart)) }
+        ensures happens { (task : Task) (o : Objects) (w : worlds.World) → WorldRepresents (λ b s. I.keys b s) task o self.old w
+            → OnOk result ((v : worlds.World) × worlds.Happens task w worlds.restart v × WorldRepresents (λ b s. I.keys b s) task fin.empty self.new v) }
+        ensures refused { (task : Task) (o : Objects) (w : worlds.World) → WorldRepresents (λ b s. I.keys b s) task o self.old w → IfOk result (λ r. Refuses r (refusal_of task w worlds.restart)) }
         ensures setup { setup_in self.new.client ≡ setup_in self.old.client }
         ensures link { result ≢ Err RunFault.Link }
     {
@@ -246,9 +246,9 @@ impl<I: IndexBy> World<I> {
     }
 
     fn reconcile(&mut self) -> Result<Option<Refusal>, RunFault>
-        ensures happens { (task : Task) (w : worlds.World) → WorldStands (λ b s. I.keys b s) task (kept w.client.cache) self.old w
-            → OnOk result ((v : worlds.World) × worlds.Happens task w worlds.reconcile v × WorldStands (λ b s. I.keys b s) task (kept w.client.cache) self.new v) }
-        ensures refused { (task : Task) (w : worlds.World) → WorldStands (λ b s. I.keys b s) task (kept w.client.cache) self.old w → IfOk result (λ r. Refuses r (refusal_of task w worlds.reconcile)) }
+        ensures happens { (task : Task) (w : worlds.World) → WorldRepresents (λ b s. I.keys b s) task (kept w.client.cache) self.old w
+            → OnOk result ((v : worlds.World) × worlds.Happens task w worlds.reconcile v × WorldRepresents (λ b s. I.keys b s) task (kept w.client.cache) self.new v) }
+        ensures refused { (task : Task) (w : worlds.World) → WorldRepresents (λ b s. I.keys b s) task (kept w.client.cache) self.old w → IfOk result (λ r. Refuses r (refusal_of task w worlds.reconcile)) }
         ensures setup { setup_in self.new.client ≡ setup_in self.old.client }
         ensures link { result ≢ Err RunFault.Link }
     {
@@ -271,9 +271,9 @@ impl<I: IndexBy> World<I> {
         event: &WorldEvent,
         link: &mut L,
     ) -> Result<Option<Refusal>, RunFault>
-        ensures happens { (task : Task) (w : worlds.World) → WorldStands (λ b s. I.keys b s) task (kept w.client.cache) self.old w
-            → OnOk result ((v : worlds.World) × (o : Objects) × worlds.Happens task w (event_seen event.now) v × WorldStands (λ b s. I.keys b s) task o self.new v) }
-        ensures refused { (task : Task) (w : worlds.World) → WorldStands (λ b s. I.keys b s) task (kept w.client.cache) self.old w → IfOk result (λ r. Refuses r (refusal_of task w (event_seen event.now))) }
+        ensures happens { (task : Task) (w : worlds.World) → WorldRepresents (λ b s. I.keys b s) task (kept w.client.cache) self.old w
+            → OnOk result ((v : worlds.World) × (o : Objects) × worlds.Happens task w (event_seen event.now) v × WorldRepresents (λ b s. I.keys b s) task o self.new v) }
+        ensures refused { (task : Task) (w : worlds.World) → WorldRepresents (λ b s. I.keys b s) task (kept w.client.cache) self.old w → IfOk result (λ r. Refuses r (refusal_of task w (event_seen event.now))) }
         ensures setup { setup_in self.new.client ≡ setup_in self.old.client }
         ensures link { L.may_fail ≡ false → result ≢ Err RunFault.Link }
     {
@@ -291,7 +291,7 @@ impl<I: IndexBy> World<I> {
 
     /// Counts what the client's notices tell.
     fn settle(&mut self) -> Result<(), RunFault>
-        ensures settles { (task : Task) (o : Objects) (w : worlds.World) → WorldStands (λ b s. I.keys b s) task o self.old w → OnOk result (WorldStands (λ b s. I.keys b s) task (kept w.client.cache) self.new (settled w)) }
+        ensures settles { (task : Task) (o : Objects) (w : worlds.World) → WorldRepresents (λ b s. I.keys b s) task o self.old w → OnOk result (WorldRepresents (λ b s. I.keys b s) task (kept w.client.cache) self.new (settled w)) }
         ensures setup { setup_in self.new.client ≡ setup_in self.old.client }
         ensures link { result ≢ Err RunFault.Link }
     {
@@ -306,8 +306,8 @@ impl<I: IndexBy> World<I> {
         event: &WorldEvent,
         link: &mut L,
     ) -> Result<Option<Refusal>, RunFault>
-        ensures steps { (task : Task) (w : worlds.World) → WorldStands (λ b s. I.keys b s) task (kept w.client.cache) self.old w → OnOk result ((v : worlds.World) × Steps task w (event_seen event.now) v × WorldStands (λ b s. I.keys b s) task (kept v.client.cache) self.new v) }
-        ensures refused { (task : Task) (w : worlds.World) → WorldStands (λ b s. I.keys b s) task (kept w.client.cache) self.old w → IfOk result (λ r. Refuses r (refusal_of task w (event_seen event.now))) }
+        ensures steps { (task : Task) (w : worlds.World) → WorldRepresents (λ b s. I.keys b s) task (kept w.client.cache) self.old w → OnOk result ((v : worlds.World) × Steps task w (event_seen event.now) v × WorldRepresents (λ b s. I.keys b s) task (kept v.client.cache) self.new v) }
+        ensures refused { (task : Task) (w : worlds.World) → WorldRepresents (λ b s. I.keys b s) task (kept w.client.cache) self.old w → IfOk result (λ r. Refuses r (refusal_of task w (event_seen event.now))) }
         ensures setup { setup_in self.new.client ≡ setup_in self.old.client }
         ensures link { L.may_fail ≡ false → result ≢ Err RunFault.Link }
     {

@@ -10,10 +10,10 @@ use Rattle.api_types.specs.TypesFile.{ServedShape}
 use Rattle.history.specs.History.{History, Key, last_revision}
 use Rattle.params.specs.Query.{Pairs}
 use Rattle.lists.specs.Body.{continued_at}
-use Rattle.lists.specs.Tokens.{next_pairs}
+use Rattle.lists.specs.TokenLaws.{next_pairs}
 use Rattle.lists.proofs.Tokens.{query_is_read}
 use Rattle.api_request.specs.declared.method.Method.TheVariants.{Get}
-use Rattle.api_request.specs.Admit.{Place, admitted, place_admitted}
+use Rattle.api_request.specs.Admit.{RequestInfo, admitted, place_admitted}
 use Rattle.api_request.specs.Calls.{Call, Target}
 use Rattle.verbs.specs.Machine.{AreUnicode, IsMachine}
 use Rattle.api_validation.specs.Parameters.{read_or_refused}
@@ -27,15 +27,15 @@ use Rattle.wire_laws.specs.Printed.{IsPrinted, IsRequest, IsTooLong}
 use Rattle.wire_laws.proofs.Asking.{bodiless_asks}
 use Rattle.wire_laws.proofs.PrintedRequests.{too_long_says}
 use Rattle.reflector.specs.Client.{place_in}
-use Rattle.reflector.specs.Follows.{IsPart}
+use Rattle.reflector.specs.FollowsLaws.{IsPart}
 use Rattle.reflector.specs.Requests.{list_query, path_of, watch_query}
-use Rattle.reflector.specs.Faults.{is_page}
+use Rattle.reflector.specs.Faults.{is_page_size}
 use Rattle.world_laws.proofs.Mirror.{server_of}
 use Rattle.world_laws.proofs.Mirrored.{key_at}
 use Rattle.world_laws.proofs.Pages.{token_behind}
 use Rattle.world_laws.proofs.Passes.{AsksFor, IsListCall, IsNextCall, IsWatchCall, request_with}
 use Rattle.world_laws.proofs.Queries.{IsVisible, first_is_read, first_pairs, first_query, form_visible, next_query, visible_text, visible_uri, watch_is_read, watch_pairs, watch_query_is}
-use Rattle.world_laws.proofs.Routed.{IsPathByte, path_bytes, path_leads, resource_for, unasked}
+use Rattle.world_laws.proofs.Routed.{IsPathByte, path_bytes, path_reaches, resource_for, unasked}
 use Rattle.world_laws.specs.Tasks.{IsTask, Task, client_settings, wanted_by}
 
 get_is_token : IsToken (codes "GET")
@@ -43,7 +43,7 @@ unfolding is_token_byte
 get_is_token = (omega arith, passes_each is_token_byte (codes "GET") refl)
 
 -- a size of pages is small
-page_is_low : (size : ℕ) → is_page size ≡ true → size ≤ last_revision
+page_is_low : (size : ℕ) → is_page_size size ≡ true → size ≤ last_revision
 page_is_low size is = let low : size ≤ 500 = leb-true size 500 (and_parts (nat_le 1 size) (nat_le size 500) is).1 in omega (arith, low)
 
 module _ (types : List ServedShape) (task : Task) (is : IsTask types task) where
@@ -54,7 +54,7 @@ module _ (types : List ServedShape) (task : Task) (is : IsTask types task) where
   abbrev call_with : List ℕ → Call
   call_with query = record { target = target_is; query = query; body = None }
 
-  place : Place
+  place : RequestInfo
   place = record { resource = resource_for task.settings.namespace; kind = task.settings.kind; namespace = task.settings.namespace; name = None }
 
   got : (namespace : Option (List ℕ)) → place_admitted (Some (record { resource = resource_for namespace; kind = task.settings.kind; namespace = namespace; name = None })) (codes "GET") None ≡ Ok (record target_is { namespace = namespace })
@@ -62,7 +62,7 @@ module _ (types : List ServedShape) (task : Task) (is : IsTask types task) where
   got (Some namespace) = refl
 
   is_admitted : admitted types (codes "GET") (path_of (wanted_by task)) None ≡ Ok target_is
-  is_admitted = ap (λ (o : Option Place). place_admitted o (codes "GET") None) (path_leads types task is) ∙ got task.settings.namespace
+  is_admitted = ap (λ (o : Option RequestInfo). place_admitted o (codes "GET") None) (path_reaches types task is) ∙ got task.settings.namespace
 
   target_visible : (query : List ℕ) → All IsVisible query → All IsVisible (path_of (wanted_by task) ++ 63 ∷ query)
   target_visible query all =
@@ -118,18 +118,18 @@ asks_first types task is =
       namespace = refl;
     }))
 
-pub asks_next : (types : List ServedShape) (task : Task) (machine : History) (r : ℕ) (token : List ℕ) (aside : List Stored) → IsTask types task → IsMachine types machine
-    → AreUnicode machine.changes → r ≤ machine.current → IsPart (server_of task machine) r aside (Some token) → AsksFor types (request_with task (list_query (client_settings task) (Some token))) (IsNextCall types task r aside)
-asks_next types task machine r token aside is is_machine unicode come part =
-    let behind = token_behind types task is machine is_machine r aside token come part in
+pub asks_next : (types : List ServedShape) (task : Task) (machine : History) (r : ℕ) (token : List ℕ) (paged_list : List Stored) → IsTask types task → IsMachine types machine
+    → AreUnicode machine.changes → r ≤ machine.current → IsPart (server_of task machine) r paged_list (Some token) → AsksFor types (request_with task (list_query (client_settings task) (Some token))) (IsNextCall types task r paged_list)
+asks_next types task machine r token paged_list is is_machine unicode come part =
+    let behind = token_behind types task is machine is_machine r paged_list token come part in
     let o : Stored = behind.0 in
     let k : Key = key_at task.settings.kind (place_in o) in
     let labels : List ℕ = task.settings.selector in
     let page : ℕ = task.settings.page in
     let pairs : Pairs = next_pairs page (continued_at r k) labels in
-    subst (λ q. AsksFor types (request_with task q) (IsNextCall types task r aside))
+    subst (λ q. AsksFor types (request_with task q) (IsNextCall types task r paged_list))
     (sym (ap (λ t. list_query (client_settings task) (Some t)) behind.2 ∙ next_query (client_settings task) (continued_at r k)))
-    (asks_for types task is (extend_pairs [] pairs) (IsNextCall types task r aside) (form_visible [] pairs (All-nil IsVisible)) (
+    (asks_for types task is (extend_pairs [] pairs) (IsNextCall types task r paged_list) (form_visible [] pairs (All-nil IsVisible)) (
       o,
       behind.1,
       record {

@@ -7,9 +7,9 @@ use Rattle.requests.specs.Asks.{Asks, CallDecision}
 use Rattle.httpedge.proofs.Connected.{got_each, new_still, put_there}
 use Rattle.httpedge.proofs.Outcomes.{ComesBy, ComesOn}
 use Rattle.httpedge.proofs.Staying.{others}
-use Rattle.httpedge.specs.Connections.{Connection, Standing, ended, gone, is_new, waiting, watching, with_written}
+use Rattle.httpedge.specs.Connections.{Connection, Phase, ended, gone, is_new, waiting, watching, with_written}
 use Rattle.httpedge.specs.Runs.{Steps, happens}
-use Rattle.httpedge.specs.Steps.{Event, State, after_turn, by_connection, carried_out, comes, compacts, connection_after, goes, opens, pumps, refusal, retypes, standing_after, ticks, turn_bytes, unless_refused, with_connection, with_turn}
+use Rattle.httpedge.specs.Steps.{Event, State, after_turn, by_connection, applied_event, comes, compacts, connection_after, goes, opens, pumps, refusal, retypes, phase_after, ticks, turn_bytes, unless_refused, with_connection, with_turn}
 use Rattle.httpedge.specs.Watches.{Turn, Watch, pumped, ticked}
 use Rattle.world_laws.specs.World.{ClientConnection, is_by_peer_on}
 
@@ -17,12 +17,12 @@ use Rattle.world_laws.specs.World.{ClientConnection, is_by_peer_on}
 
 -- an event leaves all as it was, or is carried out
 abbrev IsCarried : State → State → Event → Type 0
-IsCarried s t e = (t ≡ s) ⊎ ((asked : CallDecision) × (t ≡ carried_out s e asked))
+IsCarried s t e = (t ≡ s) ⊎ ((asked : CallDecision) × (t ≡ applied_event s e asked))
 
 by_refusal : (s t : State) (e : Event) → Steps s e t → IsCarried s t e
 by_refusal s t e (asked, asks, is) = go (refusal s e) is
   where
-    go : (o : Option _) → t ≡ unless_refused o s (carried_out s e asked) → IsCarried s t e
+    go : (o : Option _) → t ≡ unless_refused o s (applied_event s e asked) → IsCarried s t e
     go None is = inr (asked, is)
     go (Some why) is = inl is
 
@@ -44,24 +44,24 @@ goes_new s t id q steps = go (by_refusal s t (goes id) steps)
 -- ---- bytes that come
 
 -- a connection that waits gets its reply, or waits on; any other stays
-abbrev pub CameOn : State → State → ℕ → Connection → List ℕ → Standing → Type 0
-CameOn s t id c bytes (waiting front) =
-    (asked : CallDecision) × Asks s.types (front ++ bytes) asked × (fin.get t.connections id ≡ Some (connection_after s.types s.machine s.last_tick c (front ++ bytes) asked))
+abbrev pub CameOn : State → State → ℕ → Connection → List ℕ → Phase → Type 0
+CameOn s t id c bytes (waiting prefix) =
+    (asked : CallDecision) × Asks s.types (prefix ++ bytes) asked × (fin.get t.connections id ≡ Some (connection_after s.types s.machine s.last_tick c (prefix ++ bytes) asked))
 CameOn s t id c bytes (watching w) = fin.get t.connections id ≡ Some c
 CameOn s t id c bytes ended = fin.get t.connections id ≡ Some c
 CameOn s t id c bytes (gone had_ended) = fin.get t.connections id ≡ Some c
 
-came_by : (s t : State) (id : ℕ) (c : Connection) (bytes : List ℕ) (st : Standing) → fin.get s.connections id ≡ Some c → ComesOn s id c st bytes t → CameOn s t id c bytes st
-came_by s t id c bytes (waiting front) got (asked, asks, is) =
-    (asked, asks, ap (λ (x : State). fin.get x.connections id) is ∙ put_there s.connections id (connection_after s.types s.machine s.last_tick c (front ++ bytes) asked))
+came_by : (s t : State) (id : ℕ) (c : Connection) (bytes : List ℕ) (st : Phase) → fin.get s.connections id ≡ Some c → ComesOn s id c st bytes t → CameOn s t id c bytes st
+came_by s t id c bytes (waiting prefix) got (asked, asks, is) =
+    (asked, asks, ap (λ (x : State). fin.get x.connections id) is ∙ put_there s.connections id (connection_after s.types s.machine s.last_tick c (prefix ++ bytes) asked))
 came_by s t id c bytes (watching w) got (asked, asks, is) = ap (λ (x : State). fin.get x.connections id) is ∙ got
 came_by s t id c bytes ended got (asked, asks, is) = ap (λ (x : State). fin.get x.connections id) is ∙ got
 came_by s t id c bytes (gone had_ended) got (asked, asks, is) = ap (λ (x : State). fin.get x.connections id) is ∙ got
 
-pub came : (s t : State) (id : ℕ) (c : Connection) (bytes : List ℕ) → fin.get s.connections id ≡ Some c → Steps s (comes id bytes) t → CameOn s t id c bytes c.standing
+pub came : (s t : State) (id : ℕ) (c : Connection) (bytes : List ℕ) → fin.get s.connections id ≡ Some c → Steps s (comes id bytes) t → CameOn s t id c bytes c.phase
 came s t id c bytes got steps =
     let by : ComesBy s id (Some c) bytes t = subst (λ (o : Option Connection). ComesBy s id o bytes t) got steps in
-    came_by s t id c bytes c.standing got (by.0, by.1, by.2)
+    came_by s t id c bytes c.phase got (by.0, by.1, by.2)
 
 -- ---- events of other peers, of watches, of the clock, compactions, and other types
 
@@ -72,21 +72,21 @@ IsTurn s w turn = ((max : ℕ) × (turn ≡ pumped s.machine max w)) ⊎ ((ms : 
 pub record HasTurn (s : State) (c : Connection) (o : Option Connection) : Type 0 where
   pub w : Watch
   pub turn : Turn
-  pub watches : c.standing ≡ watching w
+  pub watches : c.phase ≡ watching w
   pub is_turn : IsTurn s w turn
-  pub is : o ≡ Some (with_written c (turn_bytes turn) (standing_after turn.next))
+  pub is : o ≡ Some (with_written c (turn_bytes turn) (phase_after turn.next))
 
 abbrev pub StaysOrTurns : State → Connection → Option Connection → Type 0
 StaysOrTurns s c o = (o ≡ Some c) ⊎ HasTurn s c o
 
-turned_by : (s : State) (c : Connection) (o : Option Connection) (turn : Watch → Turn) (st : Standing) → c.standing ≡ st → ((w : Watch) → IsTurn s w (turn w)) → o ≡ Some (after_turn turn c st) → StaysOrTurns s c o
-turned_by s c o turn (waiting front) stands is_turn is = inl is
-turned_by s c o turn (watching w) stands is_turn is = inr (record { w = w; turn = turn w; watches = stands; is_turn = is_turn w; is = is })
-turned_by s c o turn ended stands is_turn is = inl is
-turned_by s c o turn (gone had_ended) stands is_turn is = inl is
+turned_by : (s : State) (c : Connection) (o : Option Connection) (turn : Watch → Turn) (st : Phase) → c.phase ≡ st → ((w : Watch) → IsTurn s w (turn w)) → o ≡ Some (after_turn turn c st) → StaysOrTurns s c o
+turned_by s c o turn (waiting prefix) represents is_turn is = inl is
+turned_by s c o turn (watching w) represents is_turn is = inr (record { w = w; turn = turn w; watches = represents; is_turn = is_turn w; is = is })
+turned_by s c o turn ended represents is_turn is = inl is
+turned_by s c o turn (gone had_ended) represents is_turn is = inl is
 
 turned : (s : State) (c : Connection) (o : Option Connection) (turn : Watch → Turn) → ((w : Watch) → IsTurn s w (turn w)) → o ≡ Some (with_turn turn c) → StaysOrTurns s c o
-turned s c o turn is_turn is = turned_by s c o turn c.standing refl is_turn is
+turned s c o turn is_turn is = turned_by s c o turn c.phase refl is_turn is
 
 apart : (q id : ℕ) → (q == id) ≡ false → q ≡ id → ⊥
 apart q id isnt same = true≢false (sym (eq-eqb q id same) ∙ isnt)

@@ -5,7 +5,7 @@ use Rattle.httpedge.specs.Connections.{next_id}
 use Rattle.httpedge.specs.Runs as runs
 use Rattle.httpedge.specs.Steps as edge
 use Rattle.reflector.specs.Client.{Cache}
-use Rattle.reflector.specs.Informer.{due}
+use Rattle.reflector.specs.InformerViews.{due}
 use Rattle.reflector.specs.Run.{closed, restarted}
 use Rattle.world_laws.specs.Reports.{Report, Runs}
 use Rattle.world_laws.specs.Tasks.{Task, client_settings, wanted_by}
@@ -13,7 +13,7 @@ use Rattle.world_laws.specs.World.{ClientConnection, ComesInOnePiece, Cuts, Deli
 
 -- events of the hub lead from its state in one world to that in the other
 abbrev pub HubRuns : World → World → Type 0
-HubRuns w v = (hs : List runs.Happening) × runs.Runs w.hub hs v.hub
+HubRuns w v = (hs : List runs.Action) × runs.Runs w.hub hs v.hub
 
 stays : (w v : World) → v ≡ w → HubRuns w v
 stays w v is = subst (HubRuns w) (sym is) ([], refl)

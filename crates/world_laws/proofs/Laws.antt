@@ -11,27 +11,27 @@ use Rattle.requests.specs.Decision.{refused}
 use Rattle.requests.specs.Refusals.{as_denied, too_many_connections}
 use Rattle.requests.specs.Replies.{refusal_reply}
 use Rattle.requests.specs.ReplyBytes.{chunks, watch_head}
-use Rattle.httpedge.specs.Runs.{Happening, Follows, HasGrown, Runs}
+use Rattle.httpedge.specs.Runs.{Action, Follows, HasGrown, Runs}
 use Rattle.httpedge.specs.Steps.{State}
-use Rattle.wireclient.specs.Lines.{HasNoFeed, with_feed}
+use Rattle.wireclient.specs.LineLaws.{HasNoFeed, with_feed}
 use Rattle.wireclient.specs.Reads.{Items, has_closed}
-use Rattle.wireclient.specs.Reply.{Told, head}
-use Rattle.wire_laws.specs.Watched.{told_of}
+use Rattle.wireclient.specs.Reply.{ReplyItem, head}
+use Rattle.wire_laws.specs.Watched.{sent_of}
 
 -- the items of a refusal's reply begin with its status
 abbrev pub IsDenial : Denied → Type 0
-IsDenial d = (others : List Told) × Items (refusal_reply d) (head (code_of d.reason) ∷ others)
+IsDenial d = (others : List ReplyItem) × Items (refusal_reply d) (head (code_of d.reason) ∷ others)
 
 pub record Laws : Type 0 where
-  -- bytes hold one list of items; those of a front are a front of it, and after the last item come no more
-  pub one : (bytes : List ℕ) (items others : List Told) → Items bytes items → Items bytes others → items ≡ others
-  pub same : (bytes more : List ℕ) (before items : List Told) → Items bytes before → Items (bytes ++ more) items → (after : List Told) × (items ≡ before ++ after)
-  pub closed : (bytes more : List ℕ) (items : List Told) → Items bytes items → has_closed items ≡ true → Items (bytes ++ more) items
+  -- bytes hold one list of items; those of a prefix are a prefix of it, and after the last item come no more
+  pub one : (bytes : List ℕ) (items others : List ReplyItem) → Items bytes items → Items bytes others → items ≡ others
+  pub same : (bytes more : List ℕ) (before items : List ReplyItem) → Items bytes before → Items (bytes ++ more) items → (after : List ReplyItem) × (items ≡ before ++ after)
+  pub closed : (bytes more : List ℕ) (items : List ReplyItem) → Items bytes items → has_closed items ≡ true → Items (bytes ++ more) items
   -- watches and refusals are read
-  pub watch : (texts : List (List ℕ)) (has_ended : Bool) → All HasNoFeed texts → Items (watch_head 200 ++ chunks (map with_feed texts) has_ended) (told_of 200 texts has_ended)
+  pub watch : (texts : List (List ℕ)) (has_ended : Bool) → All HasNoFeed texts → Items (watch_head 200 ++ chunks (map with_feed texts) has_ended) (sent_of 200 texts has_ended)
   pub asked : (types : List ServedShape) (bytes : List ℕ) (d : Denied) → Asks types bytes (refused d) → IsDenial d
   pub full : IsDenial (as_denied too_many_connections)
   -- the machine of a hub stays one, and grows
-  pub grows : (s t : State) (h : Happening) → Follows s h t → HasGrown s t
+  pub grows : (s t : State) (h : Action) → Follows s h t → HasGrown s t
   pub stays : (s t : State) (r : ℕ) → HasGrown s t → r ≤ s.machine.current → up_to r t.machine.changes ≡ up_to r s.machine.changes
-  pub lasts : (s t : State) (hs : List Happening) → IsMachine s.types s.machine → Runs s hs t → IsMachine t.types t.machine
+  pub lasts : (s t : State) (hs : List Action) → IsMachine s.types s.machine → Runs s hs t → IsMachine t.types t.machine

@@ -18,11 +18,11 @@ use Rattle.line_laws.specs.Listed.{IsReadAs}
 use Rattle.line_laws.specs.Shown.{taken}
 use Rattle.verbs.specs.Machine.{IsMachine}
 use Rattle.reflector.specs.Client.{place_in}
-use Rattle.reflector.specs.Follows.{LineGoes, Server, WatchGoes, Watches}
+use Rattle.reflector.specs.FollowsLaws.{IsLineStep, Server, IsWatchStep, IsWatchReply}
 use Rattle.reflector.specs.Items.{line_or_unfit}
-use Rattle.wireclient.specs.Reply.{Told, malformed, max_line}
+use Rattle.wireclient.specs.Reply.{ReplyItem, malformed, max_line}
 use Rattle.wireclient.specs.Reply as reply
-use Rattle.wire_laws.specs.Watched.{lines_told}
+use Rattle.wire_laws.specs.Watched.{lines_sent}
 use Rattle.world_laws.proofs.Mirror.{mirrored, server_of}
 use Rattle.world_laws.proofs.Mirrored.{AreRead, mirrored-insert, mirrored-remove}
 use Rattle.world_laws.proofs.SeenLines.{IsIt, IsReadLine, is_own, line_read, line_text}
@@ -53,7 +53,7 @@ module _ (types : List ServedShape) (task : Task) (machine : History) (is : IsTa
       (above, within, sym (mirrored-insert wanted task.settings.kind (selected_at task machine p) (are p) k own o x it) ∙ ap (mirrored wanted) applies, rest)
 
   line_goes : (kind : SeenKind) (k : Key) (o : Object) (x : Stored) (p : ℕ) (others : ℕ → Type 0) → IsIt wanted kind k o x → k.kind ≡ task.settings.kind → p < o.revision → o.revision ≤ machine.current
-      → by_kind kind (selected_at task machine p) k o ≡ selected_at task machine o.revision → others o.revision → LineGoes server p (taken kind x) others
+      → by_kind kind (selected_at task machine p) k o ≡ selected_at task machine o.revision → others o.revision → IsLineStep server p (taken kind x) others
   line_goes Added k o x p others it own above within applies rest = put_goes k o x p others it own above within applies rest
   line_goes Modified k o x p others it own above within applies rest = put_goes k o x p others it own above within applies rest
   line_goes Deleted k o x p others it own above within applies rest =
@@ -63,9 +63,9 @@ module _ (types : List ServedShape) (task : Task) (machine : History) (is : IsTa
   -- ---- lines in turn
 
   -- what is seen first after p leads on, or its line is too long
-  first_leads : (x : SeenChange) (p q : ℕ) (xs : List SeenChange) (news : List Told) → IsNextSeen (selection task) machine.changes machine.current p x xs → IsSeenText types (selection task) x
-      → Watches server wanted x.object.revision news q → Watches server wanted p (cond (nat_lt (length (line_text x)) max_line) (reply.line (line_text x) ∷ news) (malformed ∷ [])) q
-  first_leads x p q xs news next text others = by_length (nat_lt (length (line_text x)) max_line)
+  first_reaches : (x : SeenChange) (p q : ℕ) (xs : List SeenChange) (news : List ReplyItem) → IsNextSeen (selection task) machine.changes machine.current p x xs → IsSeenText types (selection task) x
+      → IsWatchReply server wanted x.object.revision news q → IsWatchReply server wanted p (cond (nat_lt (length (line_text x)) max_line) (reply.line (line_text x) ∷ news) (malformed ∷ [])) q
+  first_reaches x p q xs news next text others = by_length (nat_lt (length (line_text x)) max_line)
     where
       line : IsReadLine wanted x.kind x.key x.object
       line =
@@ -76,16 +76,16 @@ module _ (types : List ServedShape) (task : Task) (machine : History) (is : IsTa
       own : x.key.kind ≡ task.settings.kind
       own = eqb-true x.key.kind task.settings.kind (and_parts (x.key.kind == task.settings.kind) (is_in_namespace task.settings.namespace x.key) (is_own types task is x text)).0
 
-      by_length : (b : Bool) → Watches server wanted p (cond b (reply.line (line_text x) ∷ news) (malformed ∷ [])) q
+      by_length : (b : Bool) → IsWatchReply server wanted p (cond b (reply.line (line_text x) ∷ news) (malformed ∷ [])) q
       by_length true =
-          subst (λ (r : Read Line). WatchGoes server p (line_or_unfit r) (λ n. Watches server wanted n news q)) (sym line.reads)
-          (line_goes x.kind x.key x.object line.stored p (λ n. Watches server wanted n news q) line.is_it own next.above next.within next.applies others)
+          subst (λ (r : Read Line). IsWatchStep server p (line_or_unfit r) (λ n. IsWatchReply server wanted n news q)) (sym line.reads)
+          (line_goes x.kind x.key x.object line.stored p (λ n. IsWatchReply server wanted n news q) line.is_it own next.above next.within next.applies others)
       by_length false = tt
 
-  pub lines_lead : (n p : ℕ) (xs : List SeenChange) (last : List Told) (q : ℕ) → p ≤ machine.current → seen_changes (selection task) machine.changes p machine.current ≡ xs
-      → AllByRecursion (IsSeenText types (selection task)) xs → Watches server wanted (reached p (take n xs)) last q → Watches server wanted p (lines_told (map line_text (take n xs)) last) q
+  pub lines_lead : (n p : ℕ) (xs : List SeenChange) (last : List ReplyItem) (q : ℕ) → p ≤ machine.current → seen_changes (selection task) machine.changes p machine.current ≡ xs
+      → AllByRecursion (IsSeenText types (selection task)) xs → IsWatchReply server wanted (reached p (take n xs)) last q → IsWatchReply server wanted p (lines_sent (map line_text (take n xs)) last) q
   lines_lead zero p xs last q come seen texts others = others
   lines_lead (suc n) p [] last q come seen texts others = others
   lines_lead (suc n) p (x ∷ xs) last q come seen texts others =
       let next : IsNextSeen (selection task) machine.changes machine.current p x xs = next_seen (selection task) machine.changes machine.current p x xs history.rising come seen in
-      first_leads x p q xs (lines_told (map line_text (take n xs)) last) next texts.0 (lines_lead n x.object.revision xs last q next.within next.rest texts.1 others)
+      first_reaches x p q xs (lines_sent (map line_text (take n xs)) last) next texts.0 (lines_lead n x.object.revision xs last q next.within next.rest texts.1 others)

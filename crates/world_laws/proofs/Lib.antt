@@ -1,8 +1,10 @@
 pub mod Answered
 pub mod Asking
+pub mod EachHappens
+pub mod EachRuns
 pub mod Edges
-pub mod Happening
-pub mod Holds
+pub mod Action
+pub mod RunInvariant
 pub mod HubRuns
 pub mod Laws
 pub mod Leading
@@ -25,7 +27,7 @@ pub mod SeenTexts
 pub mod Selected
 pub mod Served
 pub mod Shaped
-pub mod StrictFronts
+pub mod StrictPrefixes
 pub mod TaskObjects
-pub mod Telling
+pub mod Sending
 pub mod Turns

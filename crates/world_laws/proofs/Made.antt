@@ -12,8 +12,8 @@ use Rattle.selector.specs.Grammar.{parse_selector}
 use Rattle.selector.specs.Requirement.{Requirement}
 use Rattle.selector.specs.declared.fault.Fault.{Fault}
 use Rattle.indexer.specs.Names.{are_distinct}
-use Rattle.lists.specs.Tokens.{IsText}
-use Rattle.reflector.specs.Faults.{is_namespace_or_all, is_page}
+use Rattle.lists.specs.TokenLaws.{IsText}
+use Rattle.reflector.specs.Faults.{is_namespace_or_all, is_page_size}
 use Rattle.world_laws.specs.Tasks.{IsTask, RunSettings, Task, or_fault, settings_fault}
 
 -- where there is no fault it holds, and there is none in the others
@@ -41,7 +41,7 @@ of_one (u ∷ us) (suc k) t all at = of_one us k t (All-tail (λ t. has_names t 
 pub made : (types : List ServedShape) (names : List (List ℕ)) (settings : RunSettings) → All (λ t. has_names t ≡ true) types → names_differ types ≡ true → IsText settings.selector
     → settings_fault types names settings ≡ None → (task : Task) × IsTask types task × (task.settings ≡ settings)
 made types names s lawful apart text none =
-    let page = none_here 1 (is_page s.page) _ none in
+    let page = none_here 1 (is_page_size s.page) _ none in
     let selector = none_here 2 (is_ok (parse_selector s.selector)) _ page.1 in
     let kind = none_here 3 (is_some (slice_get types s.kind)) _ selector.1 in
     let names_of = none_here 4 (are_distinct names) _ kind.1 in
@@ -64,7 +64,7 @@ made types names s lawful apart text none =
 
 pub needed : (types : List ServedShape) (names : List (List ℕ)) (task : Task) → IsTask types task → are_distinct names ≡ true → settings_fault types names task.settings ≡ None
 needed types names task is distinct =
-    none_there 1 (is_page task.settings.page) _ is.page
+    none_there 1 (is_page_size task.settings.page) _ is.page
     (none_there 2 (is_ok (parse_selector task.settings.selector)) _ (ap is_ok is.selector)
     (none_there 3 (is_some (slice_get types task.settings.kind)) _ (ap is_some is.served)
     (none_there 4 (are_distinct names) _ distinct (none_there 5 (is_namespace_or_all task.settings.namespace) None is.namespace refl))))

@@ -12,7 +12,7 @@ use Rattle.decoder.specs.Members.{Read}
 use Rattle.decoder.specs.OwnTexts.{object_in}
 use Rattle.decoder.specs.Wanted.{Wanted}
 use Rattle.reflector.specs.Client.{Objects, by_place}
-use Rattle.reflector.specs.Follows.{Server}
+use Rattle.reflector.specs.FollowsLaws.{Server}
 use Rattle.world_laws.specs.Tasks.{Task, selected_at, wanted_by}
 
 -- the object that was read, if it was

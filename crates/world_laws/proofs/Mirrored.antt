@@ -1,4 +1,4 @@
--- The objects of a state as the client has them: place by place, after one change, in the client's order, and the fronts of a list.
+-- The objects of a state as the client has them: place by place, after one change, in the client's order, and the prefixes of a list.
 use Rattle.std.proofs.Common.{◌≡◌, ℕ, Bool, true, false, cond, T, List, [], ◌∷◌, ◌++◌, Option, Some, None, refl, sym, ap, ap₂, subst, ◌∙◌, is_eq, is_lt}
 use Rattle.std.specs.Cmp.{nat_cmp_total, tied_itself}
 use Rattle.std.specs.FinMap as fin
@@ -12,7 +12,7 @@ use Rattle.history.specs.History as history
 use Rattle.history.proofs.Keys.{key_cmp_total, tied}
 use Rattle.history.proofs.Selecting.{both, fst, snd}
 use Rattle.indexer.specs.Objects.{Place, Stored, place_cmp}
-use Rattle.indexer.proofs.Held.{place_antisymmetric, place_total}
+use Rattle.indexer.proofs.IndexedObjects.{place_antisymmetric, place_total}
 use Rattle.decoder.specs.Members.{Read}
 use Rattle.decoder.specs.OwnTexts.{object_in}
 use Rattle.decoder.specs.Wanted.{Wanted}

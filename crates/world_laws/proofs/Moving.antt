@@ -9,67 +9,67 @@ use Rattle.requests.proofs.Deciding.{asks_more}
 use Rattle.requests.specs.Asks.{Asks, CallDecision}
 use Rattle.requests.specs.Decision.{accepted, refused, undecided}
 use Rattle.httpedge.proofs.Connected.{unknown}
-use Rattle.httpedge.specs.Connections.{Connection, Connections, Standing, ended, gone, is_new, waiting, watching, written_on}
+use Rattle.httpedge.specs.Connections.{Connection, Connections, Phase, ended, gone, is_new, waiting, watching, written_on}
 use Rattle.httpedge.specs.Runs as runs
 use Rattle.httpedge.specs.Runs.{HasGrown}
 use Rattle.httpedge.specs.Steps as edge
 use Rattle.reflector.proofs.Follows.{is_closed}
 use Rattle.reflector.proofs.Grows.{follows_later}
 use Rattle.reflector.specs.Client.{Client}
-use Rattle.reflector.specs.Follows.{Follows}
+use Rattle.reflector.specs.FollowsLaws.{Follows}
 use Rattle.reflector.specs.Requests.{request_of}
 use Rattle.reflector.specs.Run.{after_cut, closed}
 use Rattle.wireclient.specs.Reads.{Items}
-use Rattle.wireclient.specs.Reply.{Told}
+use Rattle.wireclient.specs.Reply.{ReplyItem}
 use Rattle.world_laws.proofs.Answered.{IsAnswered, answers}
 use Rattle.world_laws.proofs.Edges.{CameOn, IsTurn, StaysOrTurns, came, stays_or_turns}
-use Rattle.world_laws.proofs.Holds.{Goes, Holds, IsServed, IsServedOn, Stands}
+use Rattle.world_laws.proofs.RunInvariant.{Goes, RunInvariant, IsServed, IsServedOn, ReadInvariant}
 use Rattle.world_laws.proofs.Mirror.{server_of}
 use Rattle.world_laws.proofs.Passes.{IsTaskWatch, TurnComes}
 use Rattle.world_laws.proofs.Laws.{Laws}
-use Rattle.world_laws.proofs.Served.{IsHeard, later_server, served_later, served_on, served_turn}
+use Rattle.world_laws.proofs.Served.{IsReceived, later_server, served_later, served_on, served_turn}
 use Rattle.world_laws.proofs.Shaped.{still_lasts, turn_unshaped, watch_shaped}
-use Rattle.world_laws.proofs.Telling.{follows_silent, nothing_read}
+use Rattle.world_laws.proofs.Sending.{follows_silent, nothing_read}
 use Rattle.world_laws.proofs.Turns.{pump_comes, tick_comes}
 use Rattle.world_laws.specs.Tasks.{IsStillTask, Task, client_settings, wanted_by, with_shape}
 use Rattle.world_laws.specs.World.{ClientConnection, Receives, World, is_by_peer_on}
 
 -- ---- a client that asks nothing
 
-pub closed_silent : (c : Client) → (closed c).is_asking ≡ false
-closed_silent c = go c.is_asking refl
+pub closed_silent : (c : Client) → (closed c).is_awaiting_reply ≡ false
+closed_silent c = go c.is_awaiting_reply refl
   where
-    go : (b : Bool) → c.is_asking ≡ b → (if b then record { cache = c.cache; asks = after_cut c.asks; is_asking = false; notices = c.notices } else c).is_asking ≡ false
+    go : (b : Bool) → c.is_awaiting_reply ≡ b → (if b then record { cache = c.cache; sync = after_cut c.sync; is_awaiting_reply = false; notices = c.notices } else c).is_awaiting_reply ≡ false
     go true is = refl
     go false is = is
 
 module _ (task : Task) (h : History) (m : ℕ) where
   -- whatever its connection is
-  pub silent_goes : (c : Client) (own : Option ClientConnection) (all : Connections) (xs : List Told) (p : ℕ) → c.is_asking ≡ false → Follows (server_of task h) (wanted_by task) m c xs p
-      → Goes task h m c c.is_asking own all
+  pub silent_goes : (c : Client) (own : Option ClientConnection) (all : Connections) (xs : List ReplyItem) (p : ℕ) → c.is_awaiting_reply ≡ false → Follows (server_of task h) (wanted_by task) m c xs p
+      → Goes task h m c c.is_awaiting_reply own all
   silent_goes c own all xs p silent follows =
       subst (λ (b : Bool). Goes task h m c b own all) (sym silent) (follows_silent (server_of task h) (wanted_by task) m c xs [] p 0 silent follows)
 
-  served_follows : (c : Client) (own : ClientConnection) (o : Option Connection) → IsServedOn task h m c own o → (xs : List Told) × (p : ℕ) × Follows (server_of task h) (wanted_by task) m c xs p
+  served_follows : (c : Client) (own : ClientConnection) (o : Option Connection) → IsServedOn task h m c own o → (xs : List ReplyItem) × (p : ℕ) × Follows (server_of task h) (wanted_by task) m c xs p
   served_follows c own None is = absurd is
   served_follows c own (Some conn) is = (is.coming, is.to, is.follows)
 
-  pub goes_follows : (c : Client) (b : Bool) (own : Option ClientConnection) (all : Connections) → Goes task h m c b own all → (xs : List Told) × (p : ℕ) × Follows (server_of task h) (wanted_by task) m c xs p
+  pub goes_follows : (c : Client) (b : Bool) (own : Option ClientConnection) (all : Connections) → Goes task h m c b own all → (xs : List ReplyItem) × (p : ℕ) × Follows (server_of task h) (wanted_by task) m c xs p
   goes_follows c false own all is = ([], 0, is)
   goes_follows c true None all is = absurd is
   goes_follows c true (Some own) all is = served_follows c own (fin.get all own.id) is
 
   -- it is told that the connection has ended
-  pub closed_goes : (c : Client) (b : Bool) (old own : Option ClientConnection) (before all : Connections) → Goes task h m c b old before → Goes task h m (closed c) (closed c).is_asking own all
+  pub closed_goes : (c : Client) (b : Bool) (old own : Option ClientConnection) (before all : Connections) → Goes task h m c b old before → Goes task h m (closed c) (closed c).is_awaiting_reply own all
   closed_goes c b old own before all is =
       let any = goes_follows c b old before is in
       silent_goes (closed c) own all [] 0 (closed_silent c) (is_closed (server_of task h) (wanted_by task) m c any.0 [] any.1 0 any.2)
 
   -- or not
-  pub told_goes : (c : Client) (b : Bool) (own : Option ClientConnection) (all : Connections) → Goes task h m c c.is_asking own all
-      → Goes task h m (if b then closed c else c) (if b then closed c else c).is_asking own all
-  told_goes c true own all is = closed_goes c c.is_asking own own all all is
-  told_goes c false own all is = is
+  pub sent_goes : (c : Client) (b : Bool) (own : Option ClientConnection) (all : Connections) → Goes task h m c c.is_awaiting_reply own all
+      → Goes task h m (if b then closed c else c) (if b then closed c else c).is_awaiting_reply own all
+  sent_goes c true own all is = closed_goes c c.is_awaiting_reply own own all all is
+  sent_goes c false own all is = is
 
 -- ---- the machine grows
 
@@ -93,8 +93,8 @@ unicode_before laws s t e steps unicode =
     first_unicode s.machine.changes grown.changes.0 (subst AreUnicode grown.changes.1 unicode)
 
 -- what holds of the connection as the event leaves it, with the machine as it was, holds with the machine as it then is
-pub holds_after : (laws : Laws) (task : Task) (m n : ℕ) (w : World) (e : edge.Event) (t : edge.State) (c : Client) (own : Option ClientConnection) (requested : List ℕ) → Holds task m w → m ≤ n
-    → runs.Steps w.hub e t → Goes task w.hub.machine n c c.is_asking own t.connections → Holds task n (record { hub = t; requested = requested; client = c; connection = own })
+pub holds_after : (laws : Laws) (task : Task) (m n : ℕ) (w : World) (e : edge.Event) (t : edge.State) (c : Client) (own : Option ClientConnection) (requested : List ℕ) → RunInvariant task m w → m ≤ n
+    → runs.Steps w.hub e t → Goes task w.hub.machine n c c.is_awaiting_reply own t.connections → RunInvariant task n (record { hub = t; requested = requested; client = c; connection = own })
 holds_after laws task m n w e t c own requested is higher steps goes =
     let grown = laws.grows w.hub t (runs.happens e) steps in
     let begun : 1 ≤ m = is.begun in
@@ -102,7 +102,7 @@ holds_after laws task m n w e t c own requested is higher steps goes =
       begun = omega (arith, begun, higher);
       task_is = still_lasts w.hub.types t.types task grown.types is.task_is;
       machine = laws.lasts w.hub t (runs.happens e ∷ []) is.machine (t, steps, refl);
-      goes = goes_grown laws task w.hub t n c c.is_asking own t.connections grown goes;
+      goes = goes_grown laws task w.hub t n c c.is_awaiting_reply own t.connections grown goes;
     }
 
 -- ---- an event that isn't of the client's peer
@@ -159,17 +159,17 @@ module _ (laws : Laws) (task : Task) where
   goes_by_others m s t e c true (Some own) task_is is_machine unicode isnt steps is =
       served_by_others m s t e c own (fin.get s.connections own.id) refl task_is is_machine unicode isnt steps is
 
-  pub holds_by_others : (m : ℕ) (w : World) (e : edge.Event) (t : edge.State) (requested : List ℕ) → Holds task m w → AreUnicode w.hub.machine.changes → NotBy w.client.is_asking w.connection e
-      → runs.Steps w.hub e t → Holds task m (record { hub = t; requested = requested; client = w.client; connection = w.connection })
+  pub holds_by_others : (m : ℕ) (w : World) (e : edge.Event) (t : edge.State) (requested : List ℕ) → RunInvariant task m w → AreUnicode w.hub.machine.changes → NotBy w.client.is_awaiting_reply w.connection e
+      → runs.Steps w.hub e t → RunInvariant task m (record { hub = t; requested = requested; client = w.client; connection = w.connection })
   holds_by_others m w e t requested is unicode isnt steps =
       holds_after laws task m m w e t w.client w.connection requested is (omega arith) steps
-      (goes_by_others m w.hub t e w.client w.client.is_asking w.connection is.task_is is.machine unicode isnt steps is.goes)
+      (goes_by_others m w.hub t e w.client w.client.is_awaiting_reply w.connection is.task_is is.machine unicode isnt steps is.goes)
 
   -- ---- a piece of the request comes to the server
 
   -- the whole request came, and is answered
   served_answered : (m : ℕ) (h : History) (c : Client) (own : ClientConnection) (conn d : Connection) (n : ℕ) (is : IsServed task h m c own conn) → conn.written ≡ []
-      → IsAnswered task h m c.asks c.cache c (drop n own.unsent) d → IsServed task h m c (record own { unsent = drop n own.unsent }) d
+      → IsAnswered task h m c.sync c.cache c (drop n own.unsent) d → IsServed task h m c (record own { unsent = drop n own.unsent }) d
   served_answered m h c own conn d n is unwritten answered =
       let none : length conn.written ≡ 0 = ap length unwritten in
       let within : own.handed ≤ length conn.written = is.within in
@@ -177,128 +177,128 @@ module _ (laws : Laws) (task : Task) where
       let follows = is.follows in
       record {
         within = omega (arith, at_start);
-        told = [];
+        sent = [];
         coming = answered.items;
         to = answered.to;
         read = subst (λ (k : ℕ). Items (take k d.written) []) (sym at_start) nothing_read;
         all = answered.read;
-        follows = record { low = follows.low; cache = follows.cache; asks = follows.asks; coming = λ e. answered.comes };
-        stands = answered.stands;
+        follows = record { low = follows.low; cache = follows.cache; sync = follows.sync; coming = λ e. answered.comes };
+        represents = answered.represents;
       }
 
   -- bytes that came, and those that still are to come, as they were cut
-  still_whole : (front piece unsent : List ℕ) (n : ℕ) → take n unsent ≡ piece → (front ++ piece) ++ drop n unsent ≡ front ++ unsent
-  still_whole front piece unsent n is =
-      append_assoc front piece (drop n unsent) ∙ ap (λ (l : List ℕ). front ++ l) (ap (λ (l : List ℕ). l ++ drop n unsent) (sym is) ∙ take-append-drop n unsent)
+  still_whole : (prefix piece unsent : List ℕ) (n : ℕ) → take n unsent ≡ piece → (prefix ++ piece) ++ drop n unsent ≡ prefix ++ unsent
+  still_whole prefix piece unsent n is =
+      append_assoc prefix piece (drop n unsent) ∙ ap (λ (l : List ℕ). prefix ++ l) (ap (λ (l : List ℕ). l ++ drop n unsent) (sym is) ∙ take-append-drop n unsent)
 
-  served_waiting : (m : ℕ) (s : edge.State) (c : Client) (own : ClientConnection) (conn : Connection) (n : ℕ) (piece front : List ℕ) (asked : CallDecision) → take n own.unsent ≡ piece → IsStillTask s.types task → IsMachine s.types s.machine
-      → AreUnicode s.machine.changes → 1 ≤ m → conn.standing ≡ waiting front → Asks s.types (front ++ piece) asked → IsServed task s.machine m c own conn
-      → IsServed task s.machine m c (record own { unsent = drop n own.unsent }) (edge.connection_after s.types s.machine s.last_tick conn (front ++ piece) asked)
-  served_waiting m s c own conn n piece front asked cut task_is is_machine unicode begun stands asks is =
-      let both : (conn.written ≡ []) × (front ++ own.unsent ≡ request_of (client_settings task) c) = subst (Stands task s.machine c own.unsent is.to (is.told ++ is.coming) conn.written) stands is.stands in
+  served_waiting : (m : ℕ) (s : edge.State) (c : Client) (own : ClientConnection) (conn : Connection) (n : ℕ) (piece prefix : List ℕ) (asked : CallDecision) → take n own.unsent ≡ piece → IsStillTask s.types task → IsMachine s.types s.machine
+      → AreUnicode s.machine.changes → 1 ≤ m → conn.phase ≡ waiting prefix → Asks s.types (prefix ++ piece) asked → IsServed task s.machine m c own conn
+      → IsServed task s.machine m c (record own { unsent = drop n own.unsent }) (edge.connection_after s.types s.machine s.last_tick conn (prefix ++ piece) asked)
+  served_waiting m s c own conn n piece prefix asked cut task_is is_machine unicode begun represents asks is =
+      let both : (conn.written ≡ []) × (prefix ++ own.unsent ≡ request_of (client_settings task) c) = subst (ReadInvariant task s.machine c own.unsent is.to (is.sent ++ is.coming) conn.written) represents is.represents in
       by_asked asked asks both
     where
-      decided : (asked : CallDecision) → (asked ≡ undecided → ⊥) → Asks s.types (front ++ piece) asked → (conn.written ≡ []) × (front ++ own.unsent ≡ request_of (client_settings task) c)
-          → IsServed task s.machine m c (record own { unsent = drop n own.unsent }) (edge.connection_after s.types s.machine s.last_tick conn (front ++ piece) asked)
+      decided : (asked : CallDecision) → (asked ≡ undecided → ⊥) → Asks s.types (prefix ++ piece) asked → (conn.written ≡ []) × (prefix ++ own.unsent ≡ request_of (client_settings task) c)
+          → IsServed task s.machine m c (record own { unsent = drop n own.unsent }) (edge.connection_after s.types s.machine s.last_tick conn (prefix ++ piece) asked)
       decided asked decides asks both =
-          let whole = asks_more s.types (front ++ piece) (drop n own.unsent) asked asks decides in
+          let whole = asks_more s.types (prefix ++ piece) (drop n own.unsent) asked asks decides in
           let low : m ≤ s.machine.current = is.follows.low in
-          served_answered m s.machine c own conn (edge.connection_after s.types s.machine s.last_tick conn (front ++ piece) asked) n is both.0
-          (answers laws s.types task s.machine m s.last_tick c (drop n own.unsent) conn (front ++ piece) ((front ++ piece) ++ drop n own.unsent) asked task_is is_machine unicode begun low both.0 is.coming is.to is.follows whole
-          (still_whole front piece own.unsent n cut ∙ both.1))
+          served_answered m s.machine c own conn (edge.connection_after s.types s.machine s.last_tick conn (prefix ++ piece) asked) n is both.0
+          (answers laws s.types task s.machine m s.last_tick c (drop n own.unsent) conn (prefix ++ piece) ((prefix ++ piece) ++ drop n own.unsent) asked task_is is_machine unicode begun low both.0 is.coming is.to is.follows whole
+          (still_whole prefix piece own.unsent n cut ∙ both.1))
 
-      by_asked : (asked : CallDecision) → Asks s.types (front ++ piece) asked → (conn.written ≡ []) × (front ++ own.unsent ≡ request_of (client_settings task) c)
-          → IsServed task s.machine m c (record own { unsent = drop n own.unsent }) (edge.connection_after s.types s.machine s.last_tick conn (front ++ piece) asked)
+      by_asked : (asked : CallDecision) → Asks s.types (prefix ++ piece) asked → (conn.written ≡ []) × (prefix ++ own.unsent ≡ request_of (client_settings task) c)
+          → IsServed task s.machine m c (record own { unsent = drop n own.unsent }) (edge.connection_after s.types s.machine s.last_tick conn (prefix ++ piece) asked)
       by_asked undecided asks both =
           record {
             within = is.within;
-            told = is.told;
+            sent = is.sent;
             coming = is.coming;
             to = is.to;
             read = is.read;
             all = is.all;
             follows = is.follows;
-            stands = (both.0, still_whole front piece own.unsent n cut ∙ both.1);
+            represents = (both.0, still_whole prefix piece own.unsent n cut ∙ both.1);
           }
       by_asked (refused d) asks both = decided (refused d) (λ u. absurd cc) asks both
       by_asked (accepted call) asks both = decided (accepted call) (λ u. absurd cc) asks both
 
   -- one that doesn't wait stays, whatever is left of the request
-  served_idle : (m : ℕ) (h : History) (c : Client) (own : ClientConnection) (conn : Connection) (n : ℕ) (st : Standing) → conn.standing ≡ st
-      → ((to : ℕ) (items : List Told) (written : List ℕ) → Stands task h c own.unsent to items written st → Stands task h c (drop n own.unsent) to items written st)
+  served_idle : (m : ℕ) (h : History) (c : Client) (own : ClientConnection) (conn : Connection) (n : ℕ) (st : Phase) → conn.phase ≡ st
+      → ((to : ℕ) (items : List ReplyItem) (written : List ℕ) → ReadInvariant task h c own.unsent to items written st → ReadInvariant task h c (drop n own.unsent) to items written st)
       → IsServed task h m c own conn → IsServed task h m c (record own { unsent = drop n own.unsent }) conn
-  served_idle m h c own conn n st stands stay is =
-      let there = stay is.to (is.told ++ is.coming) conn.written (subst (Stands task h c own.unsent is.to (is.told ++ is.coming) conn.written) stands is.stands) in
+  served_idle m h c own conn n st represents stay is =
+      let there = stay is.to (is.sent ++ is.coming) conn.written (subst (ReadInvariant task h c own.unsent is.to (is.sent ++ is.coming) conn.written) represents is.represents) in
       record {
         within = is.within;
-        told = is.told;
+        sent = is.sent;
         coming = is.coming;
         to = is.to;
         read = is.read;
         all = is.all;
         follows = is.follows;
-        stands = subst (Stands task h c (drop n own.unsent) is.to (is.told ++ is.coming) conn.written) (sym stands) there;
+        represents = subst (ReadInvariant task h c (drop n own.unsent) is.to (is.sent ++ is.coming) conn.written) (sym represents) there;
       }
 
-  came_served : (m : ℕ) (s t : edge.State) (c : Client) (own : ClientConnection) (conn : Connection) (n : ℕ) (piece : List ℕ) (st : Standing) → conn.standing ≡ st → take n own.unsent ≡ piece → IsStillTask s.types task
+  came_served : (m : ℕ) (s t : edge.State) (c : Client) (own : ClientConnection) (conn : Connection) (n : ℕ) (piece : List ℕ) (st : Phase) → conn.phase ≡ st → take n own.unsent ≡ piece → IsStillTask s.types task
       → IsMachine s.types s.machine → AreUnicode s.machine.changes → 1 ≤ m → CameOn s t own.id conn piece st → IsServed task s.machine m c own conn
       → IsServedOn task s.machine m c (record own { unsent = drop n own.unsent }) (fin.get t.connections own.id)
-  came_served m s t c own conn n piece (waiting front) stands cut task_is is_machine unicode begun (asked, asks, got) is =
-      subst (IsServedOn task s.machine m c (record own { unsent = drop n own.unsent })) (sym got) (served_waiting m s c own conn n piece front asked cut task_is is_machine unicode begun stands asks is)
-  came_served m s t c own conn n piece (watching w) stands cut task_is is_machine unicode begun got is =
-      subst (IsServedOn task s.machine m c (record own { unsent = drop n own.unsent })) (sym got) (served_idle m s.machine c own conn n (watching w) stands (λ to items written is. watching_idle to items written w is) is)
+  came_served m s t c own conn n piece (waiting prefix) represents cut task_is is_machine unicode begun (asked, asks, got) is =
+      subst (IsServedOn task s.machine m c (record own { unsent = drop n own.unsent })) (sym got) (served_waiting m s c own conn n piece prefix asked cut task_is is_machine unicode begun represents asks is)
+  came_served m s t c own conn n piece (watching w) represents cut task_is is_machine unicode begun got is =
+      subst (IsServedOn task s.machine m c (record own { unsent = drop n own.unsent })) (sym got) (served_idle m s.machine c own conn n (watching w) represents (λ to items written is. watching_idle to items written w is) is)
     where
-      watching_idle : (to : ℕ) (items : List Told) (written : List ℕ) (w : _) → Stands task s.machine c own.unsent to items written (watching w) → Stands task s.machine c (drop n own.unsent) to items written (watching w)
+      watching_idle : (to : ℕ) (items : List ReplyItem) (written : List ℕ) (w : _) → ReadInvariant task s.machine c own.unsent to items written (watching w) → ReadInvariant task s.machine c (drop n own.unsent) to items written (watching w)
       watching_idle to items written w is = is
-  came_served m s t c own conn n piece ended stands cut task_is is_machine unicode begun got is =
-      subst (IsServedOn task s.machine m c (record own { unsent = drop n own.unsent })) (sym got) (served_idle m s.machine c own conn n ended stands (λ to items written is. tt) is)
-  came_served m s t c own conn n piece (gone had_ended) stands cut task_is is_machine unicode begun got is =
-      subst (IsServedOn task s.machine m c (record own { unsent = drop n own.unsent })) (sym got) (served_idle m s.machine c own conn n (gone had_ended) stands (λ to items written is. tt) is)
+  came_served m s t c own conn n piece ended represents cut task_is is_machine unicode begun got is =
+      subst (IsServedOn task s.machine m c (record own { unsent = drop n own.unsent })) (sym got) (served_idle m s.machine c own conn n ended represents (λ to items written is. tt) is)
+  came_served m s t c own conn n piece (gone had_ended) represents cut task_is is_machine unicode begun got is =
+      subst (IsServedOn task s.machine m c (record own { unsent = drop n own.unsent })) (sym got) (served_idle m s.machine c own conn n (gone had_ended) represents (λ to items written is. tt) is)
 
   came_on : (m : ℕ) (s t : edge.State) (c : Client) (own : ClientConnection) (o : Option Connection) (n : ℕ) (piece : List ℕ) → fin.get s.connections own.id ≡ o → take n own.unsent ≡ piece → IsStillTask s.types task
       → IsMachine s.types s.machine → AreUnicode s.machine.changes → 1 ≤ m → runs.Steps s (edge.comes own.id piece) t → IsServedOn task s.machine m c own o
       → IsServedOn task s.machine m c (record own { unsent = drop n own.unsent }) (fin.get t.connections own.id)
   came_on m s t c own None n piece got cut task_is is_machine unicode begun steps is = absurd is
   came_on m s t c own (Some conn) n piece got cut task_is is_machine unicode begun steps is =
-      came_served m s t c own conn n piece conn.standing refl cut task_is is_machine unicode begun (came s t own.id conn piece got steps) is
+      came_served m s t c own conn n piece conn.phase refl cut task_is is_machine unicode begun (came s t own.id conn piece got steps) is
 
   came_goes : (m : ℕ) (s t : edge.State) (c : Client) (b : Bool) (own : ClientConnection) (n : ℕ) (piece : List ℕ) → take n own.unsent ≡ piece → IsStillTask s.types task → IsMachine s.types s.machine → AreUnicode s.machine.changes
       → 1 ≤ m → runs.Steps s (edge.comes own.id piece) t → Goes task s.machine m c b (Some own) s.connections → Goes task s.machine m c b (Some (record own { unsent = drop n own.unsent })) t.connections
   came_goes m s t c false own n piece cut task_is is_machine unicode begun steps is = is
   came_goes m s t c true own n piece cut task_is is_machine unicode begun steps is = came_on m s t c own (fin.get s.connections own.id) n piece refl cut task_is is_machine unicode begun steps is
 
-  pub holds_came : (m : ℕ) (w : World) (own : ClientConnection) (n : ℕ) (piece : List ℕ) (t : edge.State) → take n own.unsent ≡ piece → w.connection ≡ Some own → Holds task m w → AreUnicode w.hub.machine.changes
-      → runs.Steps w.hub (edge.comes own.id piece) t → Holds task m (record { hub = t; requested = w.requested; client = w.client; connection = Some (record own { unsent = drop n own.unsent }) })
+  pub holds_came : (m : ℕ) (w : World) (own : ClientConnection) (n : ℕ) (piece : List ℕ) (t : edge.State) → take n own.unsent ≡ piece → w.connection ≡ Some own → RunInvariant task m w → AreUnicode w.hub.machine.changes
+      → runs.Steps w.hub (edge.comes own.id piece) t → RunInvariant task m (record { hub = t; requested = w.requested; client = w.client; connection = Some (record own { unsent = drop n own.unsent }) })
   holds_came m w own n piece t cut has is unicode steps =
-      let there : Goes task w.hub.machine m w.client w.client.is_asking (Some own) w.hub.connections = subst (λ (o : Option ClientConnection). Goes task w.hub.machine m w.client w.client.is_asking o w.hub.connections) has is.goes in
+      let there : Goes task w.hub.machine m w.client w.client.is_awaiting_reply (Some own) w.hub.connections = subst (λ (o : Option ClientConnection). Goes task w.hub.machine m w.client w.client.is_awaiting_reply o w.hub.connections) has is.goes in
       holds_after laws task m m w (edge.comes own.id piece) t w.client (Some (record own { unsent = drop n own.unsent })) w.requested is (omega arith) steps
-      (came_goes m w.hub t w.client w.client.is_asking own n piece cut is.task_is is.machine unicode is.begun steps there)
+      (came_goes m w.hub t w.client w.client.is_awaiting_reply own n piece cut is.task_is is.machine unicode is.begun steps there)
 
 -- ---- a piece of the reply comes to the client
 
 -- it goes on so, at a revision that isn't below
 abbrev pub GoesHigher : Task → History → ℕ → Client → Option ClientConnection → Connections → Type 0
-GoesHigher task h m d own all = (n : ℕ) × (m ≤ n) × Goes task h n d d.is_asking own all
+GoesHigher task h m d own all = (n : ℕ) × (m ≤ n) × Goes task h n d d.is_awaiting_reply own all
 
 module _ (laws : Laws) (task : Task) (h : History) where
-  heard_goes : (m : ℕ) (own : ClientConnection) (conn : Connection) (d : Client) (all : Connections) → fin.get all own.id ≡ Some conn → IsHeard task h m own conn d → GoesHigher task h m d (Some own) all
-  heard_goes m own conn d all got is = (is.highest, is.higher, go d.is_asking refl)
+  received_goes : (m : ℕ) (own : ClientConnection) (conn : Connection) (d : Client) (all : Connections) → fin.get all own.id ≡ Some conn → IsReceived task h m own conn d → GoesHigher task h m d (Some own) all
+  received_goes m own conn d all got is = (is.highest, is.higher, go d.is_awaiting_reply refl)
     where
-      go : (b : Bool) → d.is_asking ≡ b → Goes task h is.highest d d.is_asking (Some own) all
+      go : (b : Bool) → d.is_awaiting_reply ≡ b → Goes task h is.highest d d.is_awaiting_reply (Some own) all
       go false silent = silent_goes task h is.highest d (Some own) all is.coming is.to silent is.follows
       go true asks =
           subst (λ (b : Bool). Goes task h is.highest d b (Some own) all) (sym asks) (subst (IsServedOn task h is.highest d own) (sym got) (is.served asks))
 
-  heard_on : (m : ℕ) (c : Client) (own : ClientConnection) (o : Option Connection) (all : Connections) (n b : ℕ) (bs : List ℕ) (d : Client) → fin.get all own.id ≡ o
+  received_on : (m : ℕ) (c : Client) (own : ClientConnection) (o : Option Connection) (all : Connections) (n b : ℕ) (bs : List ℕ) (d : Client) → fin.get all own.id ≡ o
       → take n (drop own.handed (unwrap_or (option_map (λ c. c.written) o) [])) ≡ b ∷ bs → Receives true (wanted_by task) c (take own.handed (unwrap_or (option_map (λ c. c.written) o) [])) (b ∷ bs) d
       → IsServedOn task h m c own o → GoesHigher task h m d (Some (record own { handed = own.handed + length (b ∷ bs) })) all
-  heard_on m c own None all n b bs d got piece receives is = absurd is
-  heard_on m c own (Some conn) all n b bs d got piece receives is =
-      heard_goes m (record own { handed = own.handed + length (b ∷ bs) }) conn d all got (served_on laws task h m c own conn n b bs d piece receives is)
+  received_on m c own None all n b bs d got piece receives is = absurd is
+  received_on m c own (Some conn) all n b bs d got piece receives is =
+      received_goes m (record own { handed = own.handed + length (b ∷ bs) }) conn d all got (served_on laws task h m c own conn n b bs d piece receives is)
 
-  pub goes_heard : (m : ℕ) (c : Client) (asking : Bool) (own : ClientConnection) (all : Connections) (n b : ℕ) (bs : List ℕ) (d : Client) → c.is_asking ≡ asking → take n (drop own.handed (written_on all own.id)) ≡ b ∷ bs
+  pub goes_received : (m : ℕ) (c : Client) (asking : Bool) (own : ClientConnection) (all : Connections) (n b : ℕ) (bs : List ℕ) (d : Client) → c.is_awaiting_reply ≡ asking → take n (drop own.handed (written_on all own.id)) ≡ b ∷ bs
       → Receives asking (wanted_by task) c (take own.handed (written_on all own.id)) (b ∷ bs) d → Goes task h m c asking (Some own) all
       → GoesHigher task h m d (Some (record own { handed = own.handed + length (b ∷ bs) })) all
-  goes_heard m c false own all n b bs d silent piece receives is =
+  goes_received m c false own all n b bs d silent piece receives is =
       subst (λ (x : Client). GoesHigher task h m x (Some (record own { handed = own.handed + length (b ∷ bs) })) all) (sym receives) (m, omega arith, silent_goes task h m c _ all [] 0 silent is)
-  goes_heard m c true own all n b bs d asks piece receives is = heard_on m c own (fin.get all own.id) all n b bs d refl piece receives is
+  goes_received m c true own all n b bs d asks piece receives is = received_on m c own (fin.get all own.id) all n b bs d refl piece receives is

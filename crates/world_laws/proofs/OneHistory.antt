@@ -15,7 +15,7 @@ use Rattle.world_laws.specs.World.{World, WorldEvent}
 
 -- what the hub says of its history over events in turn
 pub record Grows : Type 0 where
-  pub all : (s t : State) (hs : List runs.Happening) → runs.Runs s hs t → runs.HasGrown s t
+  pub all : (s t : State) (hs : List runs.Action) → runs.Runs s hs t → runs.HasGrown s t
   pub stays : (s t : State) (r : ℕ) → runs.HasGrown s t → r ≤ s.machine.current → up_to r t.machine.changes ≡ up_to r s.machine.changes
 
 module _ (grows : Grows) (task : Task) where

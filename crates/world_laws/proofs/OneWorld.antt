@@ -6,10 +6,10 @@ use Rattle.httpedge.specs.Connections.{next_id}
 use Rattle.httpedge.specs.Steps as edge
 use Rattle.decoder.specs.Wanted.{Wanted}
 use Rattle.reflector.specs.Client.{Cache, Client}
-use Rattle.reflector.specs.Informer.{due}
-use Rattle.reflector.specs.Run.{asked, closed, hears_all, restarted, taken}
+use Rattle.reflector.specs.InformerViews.{due}
+use Rattle.reflector.specs.Run.{asked, closed, receives_all, restarted, taken}
 use Rattle.wireclient.specs.Reads.{Items}
-use Rattle.wireclient.specs.Reply.{Told}
+use Rattle.wireclient.specs.Reply.{ReplyItem}
 use Rattle.summary.specs.Apply.{apply_request}
 use Rattle.summary.specs.Counts.{summed_of}
 use Rattle.world_laws.specs.Tasks.{Task, client_settings, wanted_by}
@@ -56,25 +56,25 @@ one_brought_any w n (Some own) v u p q = one_brought w own n (take n own.unsent)
 
 -- bytes hold one list of items
 abbrev pub OneReading : Type 0
-OneReading = (bytes : List ℕ) (items others : List Told) → Items bytes items → Items bytes others → items ≡ others
+OneReading = (bytes : List ℕ) (items others : List ReplyItem) → Items bytes items → Items bytes others → items ≡ others
 
-pub same_rest : (xs ys zs : List Told) → xs ++ ys ≡ xs ++ zs → ys ≡ zs
+pub same_rest : (xs ys zs : List ReplyItem) → xs ++ ys ≡ xs ++ zs → ys ≡ zs
 same_rest [] ys zs e = e
-same_rest (x ∷ xs) ys zs e = same_rest xs ys zs (let f : List Told → List Told = λ l. drop 1 l in ap f e)
+same_rest (x ∷ xs) ys zs e = same_rest xs ys zs (let f : List ReplyItem → List ReplyItem = λ l. drop 1 l in ap f e)
 
-same_news : (xs us ys zs : List Told) → xs ≡ us → xs ++ ys ≡ us ++ zs → ys ≡ zs
+same_news : (xs us ys zs : List ReplyItem) → xs ≡ us → xs ++ ys ≡ us ++ zs → ys ≡ zs
 same_news xs us ys zs same e = same_rest xs ys zs (e ∙ ap (λ l. l ++ zs) (sym same))
 
-one_heard : OneReading → (b : Bool) (wanted : Wanted) (c : Client) (before piece : List ℕ) (d e : Client) → Receives b wanted c before piece d → Receives b wanted c before piece e → d ≡ e
-one_heard one false wanted c before piece d e p q = p ∙ sym q
-one_heard one true wanted c before piece d e (t, n, i, j, p) (u, m, k, l, q) =
-    p ∙ ap (hears_all wanted c) (same_news t u n m (one before t u i k) (one (before ++ piece) (t ++ n) (u ++ m) j l)) ∙ sym q
+one_received : OneReading → (b : Bool) (wanted : Wanted) (c : Client) (before piece : List ℕ) (d e : Client) → Receives b wanted c before piece d → Receives b wanted c before piece e → d ≡ e
+one_received one false wanted c before piece d e p q = p ∙ sym q
+one_received one true wanted c before piece d e (t, n, i, j, p) (u, m, k, l, q) =
+    p ∙ ap (receives_all wanted c) (same_news t u n m (one before t u i k) (one (before ++ piece) (t ++ n) (u ++ m) j l)) ∙ sym q
 
 one_handed : OneReading → (wanted : Wanted) (w : World) (own : ClientConnection) (piece : List ℕ) (v u : World) → Hands wanted w own piece v → Hands wanted w own piece u → v ≡ u
 one_handed one wanted w own [] v u p q = p ∙ sym q
 one_handed one wanted w own (b ∷ bs) v u (d, a, p) (e, c, q) =
     let f : Client → World = λ x. after_move (record w { client = x }) (record own { handed = own.handed + length (b ∷ bs) }) in
-    p ∙ ap f (one_heard one w.client.is_asking wanted w.client (take own.handed (reply_on w own)) (b ∷ bs) d e a c) ∙ sym q
+    p ∙ ap f (one_received one w.client.is_awaiting_reply wanted w.client (take own.handed (reply_on w own)) (b ∷ bs) d e a c) ∙ sym q
 
 one_handed_any : OneReading → (wanted : Wanted) (w : World) (n : ℕ) (own : Option ClientConnection) (v u : World) → ToClient wanted w n own v → ToClient wanted w n own u → v ≡ u
 one_handed_any one wanted w n None v u p q = p ∙ sym q

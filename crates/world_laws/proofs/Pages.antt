@@ -7,7 +7,7 @@ use Rattle.std.specs.FinMap as fin
 use Rattle.std.specs.List.{AllByRecursion, last_or}
 use Rattle.api_types.specs.TypesFile.{ServedShape}
 use Rattle.history.specs.History.{History, IsHistory, Key, Object, key_cmp, last_revision, state_at}
-use Rattle.history.specs.Seen.{IsFront, IsLimit, SeenPage, last_key, left_after, limited, past, seen_page}
+use Rattle.history.specs.Seen.{IsPrefix, IsLimit, SeenPage, last_key, left_after, limited, past, seen_page}
 use Rattle.history.proofs.Leading as leading
 use Rattle.history.proofs.Lists.{all-filter}
 use Rattle.history.proofs.Wholes.{whole_is}
@@ -20,19 +20,19 @@ use Rattle.lists.specs.declared.refusal.Refusal.TheVariants.{Expired, TooLarge}
 use Rattle.lists.specs.Body.{Collection, continued_at, list_text}
 use Rattle.lists.specs.Lists.{key_after, max_page, page_limit, page_of}
 use Rattle.lists.specs.Revision.{revision_by, revision_of, exactly, not_older_than}
-use Rattle.lists.specs.Tokens.{CanBeListed, token_after}
+use Rattle.lists.specs.TokenLaws.{CanBeListed, token_after}
 use Rattle.lists.proofs.Bounds.{revision_between}
 use Rattle.lists.proofs.NextPages.{next_is_last}
 use Rattle.watchline.specs.Lines.{added}
-use Rattle.watchline.specs.Watches.{Cursor, from_history, left_from, changes_left}
+use Rattle.watchline.specs.Watches.{Cursor, from_history, initial_left_from, changes_left}
 use Rattle.decoder.specs.Members.{Read}
 use Rattle.decoder.specs.Pages.{Page, page_in}
 use Rattle.decoder.specs.Wanted.{Wanted}
 use Rattle.reflector.specs.Client.{place_in}
-use Rattle.reflector.specs.Follows.{IsPart, ListGoes, Lists, Server}
-use Rattle.reflector.specs.Items.{begun, page_or_unfit, unfit}
+use Rattle.reflector.specs.FollowsLaws.{IsPart, IsListStep, IsListReply, Server}
+use Rattle.reflector.specs.Items.{begun, page_or_unfit, unexpected}
 use Rattle.line_laws.specs.Listed.{AreReadAs, IsReadAsPage, page_with}
-use Rattle.line_laws.proofs.Kept.{standing_read}
+use Rattle.line_laws.proofs.Kept.{leaf_value_read}
 use Rattle.line_laws.proofs.SeenBodies.{all_taken}
 use Rattle.api_request.specs.Calls.{Call}
 use Rattle.api_request.specs.Calls as calls
@@ -40,12 +40,12 @@ use Rattle.verbs.specs.Machine.{AreUnicode, IsMachine, IsNamed}
 use Rattle.verbs.specs.Step.{collection_of, list_refusal, planned, refused}
 use Rattle.requests.specs.Replies.{answer_reply}
 use Rattle.wireclient.specs.Reads.{Items, max_body}
-use Rattle.wireclient.specs.Reply.{Told, end, head, malformed, whole}
+use Rattle.wireclient.specs.Reply.{ReplyItem, end, head, malformed, whole}
 use Rattle.wireclient.proofs.ReadBack.{length_reads, reply_read as reply_read_back}
 use Rattle.wireclient.proofs.TooLong.{no_length, unframed_read}
 use Rattle.wire_laws.specs.Listings.{listed_by, page_plan}
 use Rattle.wire_laws.proofs.Listings.{list_refused, page_planned}
-use Rattle.wire_laws.proofs.AnyLengths.{IsToldOf, any_reply_read}
+use Rattle.wire_laws.proofs.AnyLengths.{IsSentOf, any_reply_read}
 use Rattle.wire_laws.proofs.PrintedReplies.{Reader}
 use Rattle.wire_laws.proofs.TurnTexts.{coming_unicode}
 use Rattle.wire_laws.proofs.Written.{status_is}
@@ -56,38 +56,38 @@ use Rattle.world_laws.proofs.ListTexts.{HasKeyTexts, list_utf8}
 use Rattle.world_laws.proofs.Mirror.{server_of}
 use Rattle.world_laws.proofs.Mirrored.{AllRead, AreRead, Entries, each_read, key_at, state_mirrored}
 use Rattle.world_laws.proofs.Names.{label_utf8, subdomain_utf8}
-use Rattle.world_laws.proofs.Parts.{IsLast, SetAside, all_first, front_is_part, last_has, later_last, part_is_front, read_both}
-use Rattle.world_laws.proofs.StrictFronts.{EndsInBrace, list_ends, no_page_in_front}
+use Rattle.world_laws.proofs.Parts.{IsLast, KeepsPaged, all_first, prefix_is_part, last_has, later_last, part_is_prefix, read_both}
+use Rattle.world_laws.proofs.StrictPrefixes.{EndsInBrace, list_ends, no_page_in_prefix}
 use Rattle.world_laws.proofs.TaskObjects.{listed_for, named_at, objects_kept, selected_read, type_utf8, version_utf8, wants}
 
 -- ---- what is told of a reply
 
-module _ (server : Server) (wanted : Wanted) (m : ℕ) (aside : List Stored) where
+module _ (server : Server) (wanted : Wanted) (m : ℕ) (paged_list : List Stored) where
   -- whatever is told of the reply goes on behind what is set aside
   abbrev pub ReplyGoes : ℕ → List ℕ → Type 0
-  ReplyGoes code body = (items : List Told) → IsToldOf code body items → Lists server wanted m aside items
+  ReplyGoes code body = (items : List ReplyItem) → IsSentOf code body items → IsListReply server wanted m paged_list items
 
   -- one that isn't an answer says nothing
   refused_goes : (code : ℕ) (body : List ℕ) → (code == 200) ≡ false → ReplyGoes code body
-  refused_goes code body refused items (inl same) = subst (Lists server wanted m aside) (sym same) (by_length (nat_le (length body) max_body))
+  refused_goes code body refused items (inl same) = subst (IsListReply server wanted m paged_list) (sym same) (by_length (nat_le (length body) max_body))
     where
-      by_length : (b : Bool) → Lists server wanted m aside (cond b (head code ∷ whole body ∷ end ∷ []) (malformed ∷ []))
-      by_length true = subst (λ t. ListGoes server m aside (cond t begun unfit) (Lists server wanted m aside (whole body ∷ end ∷ []))) (sym refused) tt
+      by_length : (b : Bool) → IsListReply server wanted m paged_list (cond b (head code ∷ whole body ∷ end ∷ []) (malformed ∷ []))
+      by_length true = subst (λ t. IsListStep server m paged_list (cond t begun unexpected) (IsListReply server wanted m paged_list (whole body ∷ end ∷ []))) (sym refused) tt
       by_length false = tt
   refused_goes code body refused items (inr (k, short, same)) =
-      subst (Lists server wanted m aside) (sym same) (subst (λ t. ListGoes server m aside (cond t begun unfit) (Lists server wanted m aside (whole (take k body) ∷ end ∷ []))) (sym refused) tt)
+      subst (IsListReply server wanted m paged_list) (sym same) (subst (λ t. IsListStep server m paged_list (cond t begun unexpected) (IsListReply server wanted m paged_list (whole (take k body) ∷ end ∷ []))) (sym refused) tt)
 
-  answered_goes : (body : List ℕ) (p : Page) → EndsInBrace body → page_in wanted body ≡ Ok p → (m ≤ p.revision) × (p.revision ≤ server.top) × IsPart server p.revision (aside ++ p.objects) p.token → ReplyGoes 200 body
-  answered_goes body p ends read goes items (inl same) = subst (Lists server wanted m aside) (sym same) (by_length (nat_le (length body) max_body))
+  answered_goes : (body : List ℕ) (p : Page) → EndsInBrace body → page_in wanted body ≡ Ok p → (m ≤ p.revision) × (p.revision ≤ server.top) × IsPart server p.revision (paged_list ++ p.objects) p.token → ReplyGoes 200 body
+  answered_goes body p ends read goes items (inl same) = subst (IsListReply server wanted m paged_list) (sym same) (by_length (nat_le (length body) max_body))
     where
-      by_length : (b : Bool) → Lists server wanted m aside (cond b (head 200 ∷ whole body ∷ end ∷ []) (malformed ∷ []))
-      by_length true = subst (λ (r : Read Page). ListGoes server m aside (page_or_unfit r) (Lists server wanted m aside (end ∷ []))) (sym read) goes
+      by_length : (b : Bool) → IsListReply server wanted m paged_list (cond b (head 200 ∷ whole body ∷ end ∷ []) (malformed ∷ []))
+      by_length true = subst (λ (r : Read Page). IsListStep server m paged_list (page_or_unfit r) (IsListReply server wanted m paged_list (end ∷ []))) (sym read) goes
       by_length false = tt
-  answered_goes body p ends read goes items (inr (k, short, same)) = subst (Lists server wanted m aside) (sym same) (by_front (page_in wanted (take k body)) refl)
+  answered_goes body p ends read goes items (inr (k, short, same)) = subst (IsListReply server wanted m paged_list) (sym same) (by_prefix (page_in wanted (take k body)) refl)
     where
-      by_front : (r : Read Page) → page_in wanted (take k body) ≡ r → ListGoes server m aside (page_or_unfit r) (Lists server wanted m aside (end ∷ []))
-      by_front (Ok q) is = absurd (no_page_in_front wanted body k p q ends short read is)
-      by_front (Err e) is = tt
+      by_prefix : (r : Read Page) → page_in wanted (take k body) ≡ r → IsListStep server m paged_list (page_or_unfit r) (IsListReply server wanted m paged_list (end ∷ []))
+      by_prefix (Ok q) is = absurd (no_page_in_prefix wanted body k p q ends short read is)
+      by_prefix (Err e) is = tt
 
 -- ---- numbers and keys
 
@@ -119,9 +119,9 @@ exact_is current compacted asked r is = go (nat_lt asked compacted) (nat_le aske
     go false true same = cc
     go false false same = absurd cc
 
-is_last_by : (front : Entries) (next : Option Key) → ((k : Key) → next ≡ Some k → last_key front ≡ Some k) → IsLast front next
-is_last_by front None is = tt
-is_last_by front (Some k) is = is k refl
+is_last_by : (prefix : Entries) (next : Option Key) → ((k : Key) → next ≡ Some k → last_key prefix ≡ Some k) → IsLast prefix next
+is_last_by prefix None is = tt
+is_last_by prefix (Some k) is = is k refl
 
 bodies_added : (es : Entries) → AllByRecursion (λ x. IsUtf8 x.object.body) (map added es) → AllByRecursion (λ e. IsUtf8 e.1.body) es
 bodies_added [] all = tt
@@ -160,7 +160,7 @@ module _ (types : List ServedShape) (task : Task) (is_task : IsTask types task) 
   history = whole_is machine_is.first machine machine_is.whole
 
   abbrev cursor_at : ℕ → Cursor
-  cursor_at r = record { kind = task.settings.kind; namespace = task.settings.namespace; requirements = task.requirements; bookmarks = false; position = r; told = r; left = left_from None }
+  cursor_at r = record { kind = task.settings.kind; namespace = task.settings.namespace; requirements = task.requirements; bookmarks = false; position = r; sent = r; left = initial_left_from None }
 
   unicode_at : AreUnicode machine.changes → (r : ℕ) → AllByRecursion (λ e. IsUtf8 e.1.body) (fin.entries (selected_at task machine r))
   unicode_at unicode r =
@@ -190,26 +190,26 @@ module _ (types : List ServedShape) (task : Task) (is_task : IsTask types task) 
 
     page_read : AreUnicode machine.changes → IsReadAsPage wanted (list_text of r page) r page
     page_read unicode =
-        standing_read wanted of (wants types task is_task) (page_values task token) r (state_at machine.changes r)
+        leaf_value_read wanted of (wants types task is_task) (page_values task token) r (state_at machine.changes r)
         (objects_kept types task is_task machine machine_is r) within
         (list_utf8 of r page (version_utf8 types task is_task) (type_utf8 types task is_task) within (key_texts page.next named_next) (all_shown (λ e. IsUtf8 e.1.body) (unicode_at unicode r)))
 
-  -- behind what is set aside, it is a front of the list
-  record GoesOn (m : ℕ) (aside : List Stored) (token : Option Token) (r : ℕ) : Type 0 where
+  -- behind what is set aside, it is a prefix of the list
+  record GoesOn (m : ℕ) (paged_list : List Stored) (token : Option Token) (r : ℕ) : Type 0 where
     low : m ≤ r
     before : Entries
-    read : AreReadAs wanted before aside
-    front : IsFront (fin.entries (selected_at task machine r)) (before ++ (page_at token r).found) (page_at token r).next
+    read : AreReadAs wanted before paged_list
+    prefix : IsPrefix (fin.entries (selected_at task machine r)) (before ++ (page_at token r).found) (page_at token r).next
 
-  page_goes : AreUnicode machine.changes → (m : ℕ) (aside : List Stored) (token : Option Token) (r : ℕ) → GoesOn m aside token r → r ≤ machine.current
-      → ReplyGoes server wanted m aside 200 (list_text of r (page_at token r))
-  page_goes unicode m aside token r goes high =
+  page_goes : AreUnicode machine.changes → (m : ℕ) (paged_list : List Stored) (token : Option Token) (r : ℕ) → GoesOn m paged_list token r → r ≤ machine.current
+      → ReplyGoes server wanted m paged_list 200 (list_text of r (page_at token r))
+  page_goes unicode m paged_list token r goes high =
       let page : SeenPage = page_at token r in
       let read = page_read token r high unicode in
       let last : IsLast page.found page.next = is_last_by page.found page.next (is_last token r high) in
-      let part = front_is_part task machine task.settings.kind r (read_at r) (goes.before ++ page.found) page.next (aside ++ read.0) goes.front (later_last goes.before page.found page.next last)
-      (read_both wanted goes.before page.found aside read.0 goes.read read.2) in
-      answered_goes server wanted m aside (list_text of r page) (page_with r page.next read.0) (list_ends of r page) read.1 (goes.low, high, part)
+      let part = prefix_is_part task machine task.settings.kind r (read_at r) (goes.before ++ page.found) page.next (paged_list ++ read.0) goes.prefix (later_last goes.before page.found page.next last)
+      (read_both wanted goes.before page.found paged_list read.0 goes.read read.2) in
+      answered_goes server wanted m paged_list (list_text of r page) (page_with r page.next read.0) (list_ends of r page) read.1 (goes.low, high, part)
 
   -- ---- the first page, and one behind a token
 
@@ -218,20 +218,20 @@ module _ (types : List ServedShape) (task : Task) (is_task : IsTask types task) 
     low = subst (λ n. m ≤ n) (current_is machine.current machine.compacted r at) low;
     before = [];
     read = tt;
-    front = leading.first (selection task) (page_limit task.settings.page) (state_at machine.changes r) (has_room task.settings.page);
+    prefix = leading.first (selection task) (page_limit task.settings.page) (state_at machine.changes r) (has_room task.settings.page);
   }
 
-  module _ (r : ℕ) (aside : List Stored) (token : List ℕ) (part_is : IsPart server r aside (Some token)) where
-    so_far : SetAside wanted (selected_at task machine r) r aside token
-    so_far = part_is_front task machine task.settings.kind r (read_at r) aside token part_is
+  module _ (r : ℕ) (paged_list : List Stored) (token : List ℕ) (part_is : IsPart server r paged_list (Some token)) where
+    so_far : KeepsPaged wanted (selected_at task machine r) r paged_list token
+    so_far = part_is_prefix task machine task.settings.kind r (read_at r) paged_list token part_is
 
-    front_all : (P : Key × Object → Type 0) → AllByRecursion P (fin.entries (selected_at task machine r)) → AllByRecursion P so_far.front
-    front_all P all = all_first P so_far.front so_far.is.rest (subst (AllByRecursion P) so_far.is.is all)
+    prefix_all : (P : Key × Object → Type 0) → AllByRecursion P (fin.entries (selected_at task machine r)) → AllByRecursion P so_far.prefix
+    prefix_all P all = all_first P so_far.prefix so_far.is.rest (subst (AllByRecursion P) so_far.is.is all)
 
     own_kind : so_far.last.kind ≡ task.settings.kind
     own_kind =
-        last_has (λ k. k.kind ≡ task.settings.kind) so_far.last so_far.front
-        (front_all (λ e. e.0.kind ≡ task.settings.kind) (kinds (fin.entries (selected_at task machine r)) (each_read wanted task.settings.kind (selected_at task machine r) (read_at r)))) so_far.is_last
+        last_has (λ k. k.kind ≡ task.settings.kind) so_far.last so_far.prefix
+        (prefix_all (λ e. e.0.kind ≡ task.settings.kind) (kinds (fin.entries (selected_at task machine r)) (each_read wanted task.settings.kind (selected_at task machine r) (read_at r)))) so_far.is_last
       where
         kinds : (es : Entries) → AllRead wanted task.settings.kind es → AllByRecursion (λ e. e.0.kind ≡ task.settings.kind) es
         kinds [] all = tt
@@ -240,17 +240,17 @@ module _ (types : List ServedShape) (task : Task) (is_task : IsTask types task) 
     -- the token can be read
     can_be_listed : r ≤ machine.current → CanBeListed r so_far.last
     can_be_listed high =
-        let named = last_has IsNamed so_far.last so_far.front (front_all (λ e. IsNamed e.0) (named_at types task is_task machine machine_is r)) so_far.is_last in
+        let named = last_has IsNamed so_far.last so_far.prefix (prefix_all (λ e. IsNamed e.0) (named_at types task is_task machine machine_is r)) so_far.is_last in
         let top : machine.current ≤ last_revision = history.high in
         record { high = omega (arith, high, top); namespace = named.namespace; name = named.name }
 
-    next_goes : (m q : ℕ) → m ≤ r → revision_of machine.current machine.compacted (page_values task (Some (token_after r so_far.last))) ≡ Ok q → GoesOn m aside (Some (token_after r so_far.last)) q
-    next_goes m q low at = subst (GoesOn m aside (Some (token_after r so_far.last))) (exact_is machine.current machine.compacted r q at) (record {
+    next_goes : (m q : ℕ) → m ≤ r → revision_of machine.current machine.compacted (page_values task (Some (token_after r so_far.last))) ≡ Ok q → GoesOn m paged_list (Some (token_after r so_far.last)) q
+    next_goes m q low at = subst (GoesOn m paged_list (Some (token_after r so_far.last))) (exact_is machine.current machine.compacted r q at) (record {
       low = low;
-      before = so_far.front;
+      before = so_far.prefix;
       read = so_far.read;
-      front = subst (λ k. IsFront (fin.entries (selected_at task machine r)) (so_far.front ++ (page_from k).found) (page_from k).next) (same_key task.settings.kind r so_far.last own_kind)
-          (leading.next (selection task) (page_limit task.settings.page) (state_at machine.changes r) so_far.front so_far.last (has_room task.settings.page) so_far.is);
+      prefix = subst (λ k. IsPrefix (fin.entries (selected_at task machine r)) (so_far.prefix ++ (page_from k).found) (page_from k).next) (same_key task.settings.kind r so_far.last own_kind)
+          (leading.next (selection task) (page_limit task.settings.page) (state_at machine.changes r) so_far.prefix so_far.last (has_room task.settings.page) so_far.is);
     })
       where
         page_from : Key → SeenPage
@@ -275,20 +275,20 @@ module _ (types : List ServedShape) (task : Task) (is_task : IsTask types task) 
 
     -- it opens no watch, and what is told of it, whatever it is, goes on behind what is set aside
     abbrev AnswerGoes : ℕ → List Stored → calls.Plan → Type 0
-    AnswerGoes m aside plan = (plan.answer.watch ≡ None) × ReplyGoes server wanted m aside plan.answer.status plan.answer.body
+    AnswerGoes m paged_list plan = (plan.answer.watch ≡ None) × ReplyGoes server wanted m paged_list plan.answer.status plan.answer.body
 
-    answer_goes : AreUnicode machine.changes → (m : ℕ) (aside : List Stored) → ((r : ℕ) → revision_of machine.current machine.compacted values ≡ Ok r → GoesOn m aside token r) → AnswerGoes m aside (planned types machine call)
-    answer_goes unicode m aside goes = by_revision (revision_of machine.current machine.compacted values) refl
+    answer_goes : AreUnicode machine.changes → (m : ℕ) (paged_list : List Stored) → ((r : ℕ) → revision_of machine.current machine.compacted values ≡ Ok r → GoesOn m paged_list token r) → AnswerGoes m paged_list (planned types machine call)
+    answer_goes unicode m paged_list goes = by_revision (revision_of machine.current machine.compacted values) refl
       where
-        refused_by : (refusal : Refusal) → ((refused (list_refusal refusal)).answer.status == 200) ≡ false → revision_of machine.current machine.compacted values ≡ Err refusal → AnswerGoes m aside (planned types machine call)
+        refused_by : (refusal : Refusal) → ((refused (list_refusal refusal)).answer.status == 200) ≡ false → revision_of machine.current machine.compacted values ≡ Err refusal → AnswerGoes m paged_list (planned types machine call)
         refused_by refusal other at =
             let answer : calls.Answer = (refused (list_refusal refusal)).answer in
-            subst (AnswerGoes m aside) (sym (list_refused types machine call task.t values asks.lists refusal at)) (refl, refused_goes server wanted m aside answer.status answer.body other)
+            subst (AnswerGoes m paged_list) (sym (list_refused types machine call task.t values asks.lists refusal at)) (refl, refused_goes server wanted m paged_list answer.status answer.body other)
 
-        by_revision : (answer : Result ℕ Refusal) → revision_of machine.current machine.compacted values ≡ answer → AnswerGoes m aside (planned types machine call)
+        by_revision : (answer : Result ℕ Refusal) → revision_of machine.current machine.compacted values ≡ answer → AnswerGoes m paged_list (planned types machine call)
         by_revision (Ok r) at =
             let high : r ≤ machine.current = (revision_between machine.current machine.compacted history.low values r (sym at)).1 in
-            subst (AnswerGoes m aside) (sym (paged r at)) (refl, page_goes unicode m aside token r (goes r at) high)
+            subst (AnswerGoes m paged_list) (sym (paged r at)) (refl, page_goes unicode m paged_list token r (goes r at) high)
         by_revision (Err (Expired n compacted)) at = refused_by (Expired n compacted) refl at
         by_revision (Err (TooLarge n current)) at = refused_by (TooLarge n current) refl at
 
@@ -300,21 +300,21 @@ module _ (types : List ServedShape) (task : Task) (is_task : IsTask types task) 
   first_comes unicode m call low asks = answer_goes None call asks unicode m [] (λ r at. first_goes m r low at)
 
   -- of one that asks for the page behind a token
-  pub next_comes : AreUnicode machine.changes → (m r : ℕ) (aside : List Stored) (token : List ℕ) (call : Call) → m ≤ r → IsPart server r aside (Some token) → IsNextCall types task r aside call
-      → ((planned types machine call).answer.watch ≡ None) × ReplyGoes server wanted m aside (planned types machine call).answer.status (planned types machine call).answer.body
-  next_comes unicode m r aside token call low part_is next =
-      let last = so_far r aside token part_is in
+  pub next_comes : AreUnicode machine.changes → (m r : ℕ) (paged_list : List Stored) (token : List ℕ) (call : Call) → m ≤ r → IsPart server r paged_list (Some token) → IsNextCall types task r paged_list call
+      → ((planned types machine call).answer.watch ≡ None) × ReplyGoes server wanted m paged_list (planned types machine call).answer.status (planned types machine call).answer.body
+  next_comes unicode m r paged_list token call low part_is next =
+      let last = so_far r paged_list token part_is in
       let own : next.0 ≡ last.object = same_some next.0 last.object (sym next.1 ∙ last.is_object) in
       let asks : IsListCall types task (Some (token_after r last.last)) call =
       subst (λ (p : Place). IsListCall types task (Some (record { revision = r; namespace = p.0; name = p.1 })) call) (ap place_in own ∙ last.same_place) next.2 in
-      answer_goes (Some (token_after r last.last)) call asks unicode m aside (λ q at. next_goes r aside token part_is m q low at)
+      answer_goes (Some (token_after r last.last)) call asks unicode m paged_list (λ q at. next_goes r paged_list token part_is m q low at)
 
   -- such a token is that of the last object, and can be read
-  pub token_behind : (r : ℕ) (aside : List Stored) (token : List ℕ) → r ≤ machine.current → IsPart server r aside (Some token)
-      → (o : Stored) × (last_or None aside ≡ Some o) × (token ≡ continued_at r (key_at task.settings.kind (place_in o))) × CanBeListed r (key_at task.settings.kind (place_in o))
-  token_behind r aside token high part_is =
-      let last = so_far r aside token part_is in
-      let named = can_be_listed r aside token part_is high in (
+  pub token_behind : (r : ℕ) (paged_list : List Stored) (token : List ℕ) → r ≤ machine.current → IsPart server r paged_list (Some token)
+      → (o : Stored) × (last_or None paged_list ≡ Some o) × (token ≡ continued_at r (key_at task.settings.kind (place_in o))) × CanBeListed r (key_at task.settings.kind (place_in o))
+  token_behind r paged_list token high part_is =
+      let last = so_far r paged_list token part_is in
+      let named = can_be_listed r paged_list token part_is high in (
         last.object,
         last.is_object,
         last.token_is,
@@ -337,31 +337,31 @@ module _ (types : List ServedShape) (task : Task) (is_task : IsTask types task) 
 -- ---- what the joined run takes of it
 
 -- the answer opens no watch, and its items go on behind these objects
-pub record ListComes (types : List ServedShape) (task : Task) (machine : History) (m : ℕ) (aside : List Stored) (call : Call) : Type 0 where
+pub record ListComes (types : List ServedShape) (task : Task) (machine : History) (m : ℕ) (paged_list : List Stored) (call : Call) : Type 0 where
   pub unwatched : (planned types machine call).answer.watch ≡ None
-  pub items : List Told
+  pub items : List ReplyItem
   pub read : Items (answer_reply (planned types machine call).answer) items
-  pub lists : Lists (server_of task machine) (wanted_by task) m aside items
+  pub lists : IsListReply (server_of task machine) (wanted_by task) m paged_list items
 
 reader : Reader
 reader = record { reply = reply_read_back; counted = length_reads; none = unframed_read; uncounted = no_length }
 
-comes : (types : List ServedShape) (task : Task) (machine : History) (m : ℕ) (aside : List Stored) (call : Call)
-    → ((planned types machine call).answer.watch ≡ None) × ReplyGoes (server_of task machine) (wanted_by task) m aside (planned types machine call).answer.status (planned types machine call).answer.body
-    → ListComes types task machine m aside call
-comes types task machine m aside call goes =
+comes : (types : List ServedShape) (task : Task) (machine : History) (m : ℕ) (paged_list : List Stored) (call : Call)
+    → ((planned types machine call).answer.watch ≡ None) × ReplyGoes (server_of task machine) (wanted_by task) m paged_list (planned types machine call).answer.status (planned types machine call).answer.body
+    → ListComes types task machine m paged_list call
+comes types task machine m paged_list call goes =
     let answer : calls.Answer = (planned types machine call).answer in
-    let told = any_reply_read reader answer.status None answer.body (status_is types machine call) (tt {0}) in
-    record { unwatched = goes.0; items = told.0; read = told.1; lists = goes.1 told.0 told.2 }
+    let sent = any_reply_read reader answer.status None answer.body (status_is types machine call) (tt {0}) in
+    record { unwatched = goes.0; items = sent.0; read = sent.1; lists = goes.1 sent.0 sent.2 }
 
 pub first_page_comes : (types : List ServedShape) (task : Task) (machine : History) (m : ℕ) (call : Call) → IsTask types task → IsMachine types machine → AreUnicode machine.changes
     → m ≤ machine.current → IsListCall types task None call → ListComes types task machine m [] call
 first_page_comes types task machine m call is is_machine unicode low asks = comes types task machine m [] call (first_comes types task is machine is_machine unicode m call low asks)
 
-pub next_page_comes : (types : List ServedShape) (task : Task) (machine : History) (m r : ℕ) (token : List ℕ) (aside : List Stored) (call : Call) → IsTask types task → IsMachine types machine
-    → AreUnicode machine.changes → m ≤ r → r ≤ machine.current → IsPart (server_of task machine) r aside (Some token) → IsNextCall types task r aside call → ListComes types task machine m aside call
-next_page_comes types task machine m r token aside call is is_machine unicode low come part asks =
-    comes types task machine m aside call (next_comes types task is machine is_machine unicode m r aside token call low part asks)
+pub next_page_comes : (types : List ServedShape) (task : Task) (machine : History) (m r : ℕ) (token : List ℕ) (paged_list : List Stored) (call : Call) → IsTask types task → IsMachine types machine
+    → AreUnicode machine.changes → m ≤ r → r ≤ machine.current → IsPart (server_of task machine) r paged_list (Some token) → IsNextCall types task r paged_list call → ListComes types task machine m paged_list call
+next_page_comes types task machine m r token paged_list call is is_machine unicode low come part asks =
+    comes types task machine m paged_list call (next_comes types task is machine is_machine unicode m r paged_list token call low part asks)
 
 -- each object of the list is the one that its text says
 pub mirror_is_right : (types : List ServedShape) (task : Task) (machine : History) (r : ℕ) → IsTask types task → IsMachine types machine

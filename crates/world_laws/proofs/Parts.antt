@@ -1,4 +1,4 @@
--- A front of the list at a revision is a part of what the client is to have, and the token behind such a part is that of its last object.
+-- A prefix of the list at a revision is a part of what the client is to have, and the token behind such a part is that of its last object.
 use Rattle.std.proofs.Common.{◌≡◌, ℕ, true, T, List, [], ◌∷◌, ◌++◌, map, Option, Some, None, option_map, refl, sym, ap, subst, ◌∙◌}
 use Rattle.std.proofs.lemmas.List.{map-append}
 use Rattle.std.specs.Cmp.Lexicographic.{bytes_decides}
@@ -7,14 +7,14 @@ use Rattle.std.specs.FinMap.{is_sorted}
 use Rattle.std.specs.List.{AllByRecursion, last_or}
 use Rattle.history.specs.History.{History, Key, Object, key_cmp}
 use Rattle.history.specs.History as history
-use Rattle.history.specs.Seen.{IsFront, last_key, past}
-use Rattle.history.proofs.Paging.{all_pages, past-front}
+use Rattle.history.specs.Seen.{IsPrefix, last_key, past}
+use Rattle.history.proofs.Paging.{all_pages, past-prefix}
 use Rattle.indexer.specs.Objects.{Place, Stored}
 use Rattle.params.specs.Texts.{token_text}
 use Rattle.lists.specs.Body.{continued_at}
 use Rattle.decoder.specs.Wanted.{Wanted}
 use Rattle.reflector.specs.Client.{by_place, place_in}
-use Rattle.reflector.specs.Follows.{IsPart, Server}
+use Rattle.reflector.specs.FollowsLaws.{IsPart, Server}
 use Rattle.line_laws.specs.Listed.{AreReadAs}
 use Rattle.world_laws.proofs.Mirror.{is_token_behind, server_of}
 use Rattle.world_laws.specs.Tasks.{Task, selected_at, wanted_by}
@@ -52,10 +52,10 @@ objects_back (x ∷ xs) = ap (λ l. x ∷ l) (objects_back xs)
 
 -- these entries begin with those that are read as these objects
 pub record Begins (wanted : Wanted) (es : Entries) (xs : List Stored) : Type 0 where
-  front : Entries
+  prefix : Entries
   rest : Entries
-  is : es ≡ front ++ rest
-  read : AreReadAs wanted front xs
+  is : es ≡ prefix ++ rest
+  read : AreReadAs wanted prefix xs
 
 module _ (wanted : Wanted) where
   pub read_both : (es fs : Entries) (xs ys : List Stored) → AreReadAs wanted es xs → AreReadAs wanted fs ys → AreReadAs wanted (es ++ fs) (xs ++ ys)
@@ -65,11 +65,11 @@ module _ (wanted : Wanted) where
   read_both (e ∷ es) fs (x ∷ xs) ys one other = (one.0, read_both es fs xs ys one.1 other)
 
   begins : (es : Entries) (xs ys : List Stored) → AreReadAs wanted es (xs ++ ys) → Begins wanted es xs
-  begins es [] ys read = record { front = []; rest = es; is = refl; read = tt }
+  begins es [] ys read = record { prefix = []; rest = es; is = refl; read = tt }
   begins [] (x ∷ xs) ys read = absurd read
   begins (e ∷ es) (x ∷ xs) ys read =
       let others = begins es xs ys read.1 in
-      record { front = e ∷ others.front; rest = others.rest; is = ap (λ l. e ∷ l) others.is; read = (read.0, others.read) }
+      record { prefix = e ∷ others.prefix; rest = others.rest; is = ap (λ l. e ∷ l) others.is; read = (read.0, others.read) }
 
   -- the last of both is one object
   last_read : (k : Key) (es : Entries) (o : Option Stored) (xs : List Stored) → AreReadAs wanted es xs → last_key es ≡ Some k → (x : Stored) × (last_or o xs ≡ Some x) × (place_in x ≡ place_of k)
@@ -96,8 +96,8 @@ module _ (wanted : Wanted) where
 
 -- the next page, if there is one, begins after the last entry
 abbrev pub IsLast : Entries → Option Key → Type 0
-IsLast front None = Unit {0}
-IsLast front (Some k) = last_key front ≡ Some k
+IsLast prefix None = Unit {0}
+IsLast prefix (Some k) = last_key prefix ≡ Some k
 
 -- the last entry of what comes last is the last of all
 pub later_last : (before found : Entries) (next : Option Key) → IsLast found next → IsLast (before ++ found) next
@@ -108,15 +108,15 @@ later_last before found (Some k) is = last_both k before found is
 same_token : (r : ℕ) (k : Key) (x : Stored) → place_in x ≡ place_of k → continued_at r k ≡ token_text (record { revision = r; namespace = x.namespace; name = x.name })
 same_token r k x is = ap (λ (p : Place). token_text (record { revision = r; namespace = p.0; name = p.1 })) (sym is)
 
--- the objects that a client has set aside are those of a front of the list, and the token that it goes on by is the one behind the last of them
-pub record SetAside (wanted : Wanted) (s : history.Objects) (r : ℕ) (aside : List Stored) (token : List ℕ) : Type 0 where
-  pub front : Entries
+-- the objects that a client has set aside are those of a prefix of the list, and the token that it goes on by is the one behind the last of them
+pub record KeepsPaged (wanted : Wanted) (s : history.Objects) (r : ℕ) (paged_list : List Stored) (token : List ℕ) : Type 0 where
+  pub prefix : Entries
   pub last : Key
-  pub is : IsFront (fin.entries s) front (Some last)
-  pub is_last : last_key front ≡ Some last
-  pub read : AreReadAs wanted front aside
+  pub is : IsPrefix (fin.entries s) prefix (Some last)
+  pub is_last : last_key prefix ≡ Some last
+  pub read : AreReadAs wanted prefix paged_list
   pub object : Stored
-  pub is_object : last_or None aside ≡ Some object
+  pub is_object : last_or None paged_list ≡ Some object
   pub same_place : place_in object ≡ place_of last
   pub token_is : token ≡ token_text (record { revision = r; namespace = object.namespace; name = object.name })
 
@@ -130,43 +130,43 @@ module _ (task : Task) (machine : History) (kind r : ℕ) (are : AreRead (wanted
   abbrev server : Server
   server = server_of task machine
 
-  pub front_is_part : (front : Entries) (next : Option Key) (objects : List Stored) → IsFront (fin.entries s) front next → IsLast front next → AreReadAs wanted front objects
+  pub prefix_is_part : (prefix : Entries) (next : Option Key) (objects : List Stored) → IsPrefix (fin.entries s) prefix next → IsLast prefix next → AreReadAs wanted prefix objects
       → IsPart server r objects (option_map (continued_at r) next)
-  front_is_part front None objects is last read = entries-mirrored wanted kind s are objects (subst (λ es. AreReadAs wanted es objects) (sym (all_pages s front is)) read)
-  front_is_part front (Some k) objects is last read =
-      let left : AllRead wanted kind is.rest = all_left _ front is.rest (subst (AllRead wanted kind) is.is (each_read wanted kind s are)) in
+  prefix_is_part prefix None objects is last read = entries-mirrored wanted kind s are objects (subst (λ es. AreReadAs wanted es objects) (sym (all_pages s prefix is)) read)
+  prefix_is_part prefix (Some k) objects is last read =
+      let left : AllRead wanted kind is.rest = all_left _ prefix is.rest (subst (AllRead wanted kind) is.is (each_read wanted kind s are)) in
       let rest = read_all wanted kind is.rest left in
-      let whole = subst (λ es. AreReadAs wanted es (objects ++ rest.0)) (sym is.is) (read_both wanted front is.rest objects rest.0 read rest.1) in
-      let own = last_read wanted k front None objects read last in (
+      let whole = subst (λ es. AreReadAs wanted es (objects ++ rest.0)) (sym is.is) (read_both wanted prefix is.rest objects rest.0 read rest.1) in
+      let own = last_read wanted k prefix None objects read last in (
         by_place rest.0,
         entries-mirrored wanted kind s are (objects ++ rest.0) whole ∙ map-append (λ (x : Stored). (place_in x, x)) objects rest.0,
         ap (λ o. is_token_behind o r (continued_at r k)) own.1 ∙ (bytes_decides (continued_at r k) (token_text (record { revision = r; namespace = own.0.namespace; name = own.0.name }))).1 (same_token r k own.0 own.2),
       )
 
-  pub part_is_front : (aside : List Stored) (token : List ℕ) → IsPart server r aside (Some token) → SetAside wanted s r aside token
-  part_is_front aside token part = by_last (last_or None aside) refl part.2
+  pub part_is_prefix : (paged_list : List Stored) (token : List ℕ) → IsPart server r paged_list (Some token) → KeepsPaged wanted s r paged_list token
+  part_is_prefix paged_list token part = by_last (last_or None paged_list) refl part.2
     where
-      parted : Begins wanted (fin.entries s) aside
+      parted : Begins wanted (fin.entries s) paged_list
       parted =
           let left : List Stored = map (λ (e : Place × Stored). e.1) part.0 in
           let all = all_mirrored wanted kind s are in
-          let split : all.0 ≡ aside ++ left =
-          sym (objects_back all.0) ∙ ap (map (λ (e : Place × Stored). e.1)) (sym all.2 ∙ part.1) ∙ map-append (λ (e : Place × Stored). e.1) (by_place aside) part.0
-          ∙ ap (λ l. l ++ left) (objects_back aside) in
-          begins wanted (fin.entries s) aside left (subst (AreReadAs wanted (fin.entries s)) split all.1)
+          let split : all.0 ≡ paged_list ++ left =
+          sym (objects_back all.0) ∙ ap (map (λ (e : Place × Stored). e.1)) (sym all.2 ∙ part.1) ∙ map-append (λ (e : Place × Stored). e.1) (by_place paged_list) part.0
+          ∙ ap (λ l. l ++ left) (objects_back paged_list) in
+          begins wanted (fin.entries s) paged_list left (subst (AreReadAs wanted (fin.entries s)) split all.1)
 
-      by_last : (o : Option Stored) → last_or None aside ≡ o → is_token_behind o r token ≡ true → SetAside wanted s r aside token
+      by_last : (o : Option Stored) → last_or None paged_list ≡ o → is_token_behind o r token ≡ true → KeepsPaged wanted s r paged_list token
       by_last None is behind = absurd cc
       by_last (Some x) is behind =
-          let front = parted in
-          let own = last_is wanted x front.front aside front.read is in
-          let sorted : T (is_sorted key_cmp (front.front ++ front.rest)) = subst (λ es. T (is_sorted key_cmp es)) front.is (fin.entries_sorted s) in
+          let prefix = parted in
+          let own = last_is wanted x prefix.prefix paged_list prefix.read is in
+          let sorted : T (is_sorted key_cmp (prefix.prefix ++ prefix.rest)) = subst (λ es. T (is_sorted key_cmp es)) prefix.is (fin.entries_sorted s) in
           record {
-            front = front.front;
+            prefix = prefix.prefix;
             last = own.0;
-            is = record { rest = front.rest; is = front.is; left = ap (past own.0) front.is ∙ past-front own.0 front.front front.rest sorted own.1 };
+            is = record { rest = prefix.rest; is = prefix.is; left = ap (past own.0) prefix.is ∙ past-prefix own.0 prefix.prefix prefix.rest sorted own.1 };
             is_last = own.1;
-            read = front.read;
+            read = prefix.read;
             object = x;
             is_object = is;
             same_place = own.2;

@@ -6,8 +6,8 @@ use Rattle.history.specs.History.{History}
 use Rattle.params.specs.Values.{Values, no_values}
 use Rattle.params.specs.Values as params
 use Rattle.watchline.specs.Opening.{WatchFrom}
-use Rattle.watchline.specs.Watches.{none_left}
-use Rattle.watchline.specs.declared.opening.Initial.TheVariants.{Changes}
+use Rattle.watchline.specs.Watches.{no_initial_left}
+use Rattle.watchline.specs.declared.opening.InitialEvents.TheVariants.{Changes}
 use Rattle.api_request.specs.Calls.{Call}
 use Rattle.verbs.specs.Step.{planned}
 use Rattle.requests.specs.Asks.{Asks}
@@ -16,14 +16,14 @@ use Rattle.requests.specs.Refusals.{head_too_large, refuse}
 use Rattle.requests.specs.Replies.{answer_reply}
 use Rattle.httpedge.specs.Steps as edge
 use Rattle.httpedge.specs.Watches.{Turn, Watch}
-use Rattle.reflector.specs.Follows.{Watches}
+use Rattle.reflector.specs.FollowsLaws.{IsWatchReply}
 use Rattle.reflector.specs.Requests.{path_of}
-use Rattle.wireclient.specs.Lines.{HasNoFeed, with_feed}
+use Rattle.wireclient.specs.LineLaws.{HasNoFeed, with_feed}
 use Rattle.wireclient.specs.Reads.{Items}
-use Rattle.wireclient.specs.Reply.{Told}
+use Rattle.wireclient.specs.Reply.{ReplyItem}
 use Rattle.wireclient.specs.Request.{request}
 use Rattle.wire_laws.specs.Listings.{IsWatching}
-use Rattle.wire_laws.specs.Watched.{end_told, lines_told}
+use Rattle.wire_laws.specs.Watched.{end_sent, lines_sent}
 use Rattle.world_laws.proofs.Mirror.{server_of}
 pub use Rattle.world_laws.specs.ListCalls.{IsListCall, IsNextCall}
 use Rattle.world_laws.specs.Tasks.{Task, wanted_by}
@@ -65,10 +65,10 @@ pub record WatchOpens (types : List ServedShape) (task : Task) (machine : Histor
 -- the answer opens none, and its items are no reason to go on
 pub record WatchRefused (types : List ServedShape) (task : Task) (machine : History) (r : ℕ) (call : Call) : Type 0 where
   pub unwatched : (planned types machine call).answer.watch ≡ None
-  pub items : List Told
+  pub items : List ReplyItem
   pub to : ℕ
   pub read : Items (answer_reply (planned types machine call).answer) items
-  pub watches : Watches (server_of task machine) (wanted_by task) r items to
+  pub watches : IsWatchReply (server_of task machine) (wanted_by task) r items to
 
 -- ---- turns of the watch
 
@@ -78,7 +78,7 @@ pub record IsTaskWatch (task : Task) (w : Watch) : Type 0 where
   pub namespace : w.cursor.namespace ≡ task.settings.namespace
   pub requirements : w.cursor.requirements ≡ task.requirements
   pub bookmarks : w.cursor.bookmarks ≡ true
-  pub left : w.cursor.left ≡ none_left
+  pub left : w.cursor.left ≡ no_initial_left
   pub endless : w.timeout ≡ 0
 
 -- where it goes on it stands at this revision
@@ -92,5 +92,5 @@ pub record TurnComes (task : Task) (machine : History) (p : ℕ) (turn : Turn) :
   pub plain : All HasNoFeed texts
   pub lines : turn.lines ≡ map with_feed texts
   pub to : ℕ
-  pub watches : Watches (server_of task machine) (wanted_by task) p (lines_told texts (end_told (edge.has_no_next turn.next))) to
+  pub watches : IsWatchReply (server_of task machine) (wanted_by task) p (lines_sent texts (end_sent (edge.has_no_next turn.next))) to
   pub next : GoesOnAt task machine to turn.next

@@ -25,7 +25,7 @@ use Rattle.params.specs.declared.params.Asked.TheVariants as asked
 use Rattle.params.specs.Query.{Pairs, pairs_in}
 use Rattle.params.specs.Reading.{Read, ◌>>=◌, or_bad, params_of, selected, text_or}
 use Rattle.params.specs.Values.{Values, no_values}
-use Rattle.lists.specs.Tokens.{IsText, IsTextPair, labels_pair, next_pairs}
+use Rattle.lists.specs.TokenLaws.{IsText, IsTextPair, labels_pair, next_pairs}
 use Rattle.reflector.specs.Requests.{Settings, list_query, watch_query}
 use Rattle.wire_laws.proofs.Queries.{pairs_back, query_back}
 

@@ -16,7 +16,7 @@ use Rattle.api_types.specs.TypesFile.{ServedShape, type_number}
 use Rattle.api_request.specs.declared.resource.Resource.{Resource}
 use Rattle.api_request.specs.declared.resource.Resource.TheVariants.{AllNamespaces, Collection}
 use Rattle.api_request.specs.Admit.{place_of}
-use Rattle.api_request.specs.Routes.{IsPart, path_of, place_for}
+use Rattle.api_request.specs.RouteLaws.{IsPart, path_of, place_for}
 use Rattle.api_request.proofs.Leading.{paths_of_all, paths_of_collections}
 use Rattle.reflector.specs.Faults.{is_namespace_or_all}
 use Rattle.reflector.specs.Requests as requests
@@ -171,7 +171,7 @@ module _ (types : List ServedShape) (task : Task) (is : IsTask types task) where
   pub path_bytes : All IsPathByte (requests.path_of (wanted_by task))
   path_bytes = subst (All IsPathByte) (sym (path_by task.settings.namespace)) (bytes_by task.settings.namespace is.namespace)
 
-  pub path_leads : place_of types (requests.path_of (wanted_by task)) ≡ Some (record { resource = resource_for task.settings.namespace; kind = task.settings.kind; namespace = task.settings.namespace; name = None })
-  path_leads =
+  pub path_reaches : place_of types (requests.path_of (wanted_by task)) ≡ Some (record { resource = resource_for task.settings.namespace; kind = task.settings.kind; namespace = task.settings.namespace; name = None })
+  path_reaches =
       ap (place_of types) (path_by task.settings.namespace) ∙ place_by task.settings.namespace is.namespace
       ∙ ap (place_for (resource_for task.settings.namespace) task.settings.namespace None) is.numbered

@@ -7,9 +7,9 @@ use Rattle.history.specs.History.{History, fresh}
 use Rattle.verbs.specs.Machine.{AreObjectTypes, AreUnicode, IsMachine}
 use Rattle.reflector.proofs.Follows.{is_fresh}
 use Rattle.reflector.specs.Client.{Cache}
-use Rattle.reflector.specs.Follows.{IsCache}
-use Rattle.world_laws.proofs.Happening.{steps_before, steps_hold}
-use Rattle.world_laws.proofs.Holds.{Holds}
+use Rattle.reflector.specs.FollowsLaws.{IsCache}
+use Rattle.world_laws.proofs.Action.{steps_before, steps_hold}
+use Rattle.world_laws.proofs.RunInvariant.{RunInvariant}
 use Rattle.world_laws.proofs.Mirror.{server_of}
 use Rattle.world_laws.proofs.Moving.{goes_follows}
 use Rattle.world_laws.proofs.Pages.{mirror_is_right}
@@ -46,7 +46,7 @@ module _ (laws : Laws) (task : Task) where
   record EndsWell (lo : ℕ) (v : World) (reports : List Report) : Type 0 where
     highest : ℕ
     low : last_reported lo reports ≤ highest
-    holds : Holds task highest v
+    holds : RunInvariant task highest v
 
   -- and each is right
   abbrev GoWell : ℕ → World → List Report → Type 0
@@ -69,21 +69,21 @@ module _ (laws : Laws) (task : Task) where
       go true = one_report types i lo m h now others v task_is is_machine unicode low top cached rest
       go false = rest lo low
 
-  run_well : (i lo m : ℕ) (w : World) (es : List WorldEvent) (v : World) (reports : List Report) → lo ≤ m → Holds task m w → Runs task i w es v reports → AreUnicode v.hub.machine.changes → GoWell lo v reports
+  run_well : (i lo m : ℕ) (w : World) (es : List WorldEvent) (v : World) (reports : List Report) → lo ≤ m → RunInvariant task m w → Runs task i w es v reports → AreUnicode v.hub.machine.changes → GoWell lo v reports
   run_well i lo m w [] v reports low is (same, none) unicode =
-      subst (GoWell lo v) (sym none) (tt, record { highest = m; low = low; holds = subst (Holds task m) (sym same) is })
+      subst (GoWell lo v) (sym none) (tt, record { highest = m; low = low; holds = subst (RunInvariant task m) (sym same) is })
   run_well i lo m w (e ∷ es) v reports low is (mid, others, steps, rest, are) unicode =
       let mid_unicode : AreUnicode mid.hub.machine.changes = runs_before (suc i) mid es v others rest unicode in
       let on = steps_hold laws task m w mid e is mid_unicode steps in
       let higher : m ≤ on.0 = on.1 in
-      let follows = goes_follows task mid.hub.machine on.0 mid.client mid.client.is_asking mid.connection mid.hub.connections on.2.goes in
+      let follows = goes_follows task mid.hub.machine on.0 mid.client mid.client.is_awaiting_reply mid.connection mid.hub.connections on.2.goes in
       subst (GoWell lo v) (sym are)
       (between mid.hub.types i lo on.0 mid.hub.machine w.client.cache mid.client.cache others v on.2.task_is on.2.machine mid_unicode (omega (arith, low, higher)) follows.2.low follows.2.cache
       (λ lo low. run_well (suc i) lo on.0 mid es v others low on.2 rest unicode))
 
   -- ---- the start
 
-  start_holds : (types : List ServedShape) → IsTask types task → AreObjectTypes types → Holds task 1 (start types)
+  start_holds : (types : List ServedShape) → IsTask types task → AreObjectTypes types → RunInvariant task 1 (start types)
   start_holds types is shapes =
       record {
         begun = omega arith;
@@ -96,5 +96,5 @@ pub whole_run : Laws → Headline
 whole_run laws types task es v reports shapes is_task runs unicode =
     let well = run_well laws task 1 1 1 (start types) es v reports (omega arith) (start_holds laws task types is_task shapes) runs unicode in
     let holds = well.1.holds in
-    let follows = goes_follows task v.hub.machine well.1.highest v.client v.client.is_asking v.connection v.hub.connections holds.goes in
+    let follows = goes_follows task v.hub.machine well.1.highest v.client v.client.is_awaiting_reply v.connection v.hub.connections holds.goes in
     (well.0, kept_right laws task v.hub.types v.hub.machine (last_reported 1 reports) well.1.highest v.client.cache holds.task_is holds.machine unicode well.1.low follows.2.low follows.2.cache)

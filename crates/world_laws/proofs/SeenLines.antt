@@ -26,7 +26,7 @@ use Rattle.line_laws.proofs.Pages.{one_read, place, taken_as}
 use Rattle.line_laws.proofs.Said.{change_read}
 use Rattle.verbs.specs.Machine.{IsSomeTextAt}
 use Rattle.reflector.specs.Client.{place_in}
-use Rattle.wireclient.specs.Lines.{HasNoFeed, with_feed}
+use Rattle.wireclient.specs.LineLaws.{HasNoFeed, with_feed}
 use Rattle.wire_laws.proofs.LineTexts.{plain, with_its_feed}
 use Rattle.wire_laws.proofs.Listings.{text_kept}
 use Rattle.wire_laws.proofs.TurnTexts.{plain_text}
@@ -90,9 +90,9 @@ module _ (types : List ServedShape) (task : Task) (is : IsTask types task) where
     asks = wants types task is
 
     -- put, as it stands
-    stands_read : (kind : SeenKind) → version_shown kind o.revision o.revision ≡ o.revision → IsSomeTextAt types k o.revision o.body
+    represents_read : (kind : SeenKind) → version_shown kind o.revision o.revision ≡ o.revision → IsSomeTextAt types k o.revision o.body
         → (x : Stored) × (line_in wanted (shown (type_of kind) (text_shown kind o)) ≡ Ok (taken kind x)) × IsReadAs wanted k o x
-    stands_read kind same text =
+    represents_read kind same text =
         let fits = one_fits wanted of asks (k, o) (λ own. kept k o own text) within in
         let shape = fits.0.shape in
         let state = fits.0.state in
@@ -111,7 +111,7 @@ module _ (types : List ServedShape) (task : Task) (is : IsTask types task) where
         let fits = one_fits wanted of asks (k, before) (λ own. kept k before own text) within in
         let shape = fits.0.shape in
         let state = fits.0.state in
-        let found = object_read wanted shape (identity_of of k) o.revision state fits.0.shaped fits.0.says.placed low (place wanted of asks k before fits.0 fits.1) in (
+        let found = object_read wanted shape (identity_of of k) o.revision state fits.0.shaped fits.0.says.well_typed low (place wanted of asks k before fits.0 fits.1) in (
           found.0,
           change_read wanted shape (identity_of of k) version state (record { kind = Deleted; key = k; object = o }) found.0 fits.0.shaped fits.0.says low unicode found.1,
           ap₂ (λ (a b : List ℕ). (a, b)) found.2.of_namespace found.2.of_name,
@@ -119,8 +119,8 @@ module _ (types : List ServedShape) (task : Task) (is : IsTask types task) where
         )
 
     read_as : (kind : SeenKind) → HasText types kind k o → IsReadLine wanted kind k o
-    read_as Added text = let found = stands_read Added refl text in record { stored = found.0; reads = found.1; is_it = found.2 }
-    read_as Modified text = let found = stands_read Modified refl text in record { stored = found.0; reads = found.1; is_it = found.2 }
+    read_as Added text = let found = represents_read Added refl text in record { stored = found.0; reads = found.1; is_it = found.2 }
+    read_as Modified text = let found = represents_read Modified refl text in record { stored = found.0; reads = found.1; is_it = found.2 }
     read_as Deleted (version, text) = let found = gone_read version text in record { stored = found.0; reads = found.1; is_it = (found.2, found.3) }
 
   -- it is of the type, and in the namespace, if one is asked for

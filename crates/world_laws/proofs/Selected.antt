@@ -18,7 +18,7 @@ use Rattle.world_laws.proofs.Mirrored.{AreRead}
 pub selected_from : (wanted : Selection) (s : Objects) (k : Key) (o : Object) → fin.get (selected wanted s) k ≡ Some o → (fin.get s k ≡ Some o) × (wanted k o.body ≡ true)
 selected_from wanted s k o there = by_object (fin.get s k) refl (sym (get-selected wanted s k) ∙ there)
   where
-    by_object : (stands : Option Object) → fin.get s k ≡ stands → kept_object wanted k stands ≡ Some o → (fin.get s k ≡ Some o) × (wanted k o.body ≡ true)
+    by_object : (represents : Option Object) → fin.get s k ≡ represents → kept_object wanted k represents ≡ Some o → (fin.get s k ≡ Some o) × (wanted k o.body ≡ true)
     by_object None at is = absurd cc
     by_object (Some p) at is = by_test (wanted k p.body) refl is
       where
@@ -29,8 +29,8 @@ selected_from wanted s k o there = by_object (fin.get s k) refl (sym (get-select
 pub selection_read : (wanted : Wanted) (of : Collection) (requirements : List Requirement) (s : Objects) → IsWanted wanted of → AreKept of s
     → AreRead wanted of.kind (selected (selection_of of.kind of.namespace requirements) s)
 selection_read wanted of requirements s is kept k o there =
-    let stands = selected_from (selection_of of.kind of.namespace requirements) s k o there in
-    let within : is_within of.kind of.namespace k ≡ true = (and_parts (is_within of.kind of.namespace k) (selects requirements (labels_of o.body)) stands.1).0 in
+    let represents = selected_from (selection_of of.kind of.namespace requirements) s k o there in
+    let within : is_within of.kind of.namespace k ≡ true = (and_parts (is_within of.kind of.namespace k) (selects requirements (labels_of o.body)) represents.1).0 in
     let own : k.kind ≡ of.kind = eqb-true k.kind of.kind (and_parts (k.kind == of.kind) (is_in_namespace of.namespace k) within).0 in
-    let fits = one_fits wanted of is (k, o) (λ same. kept k o same stands.0) within in
+    let fits = one_fits wanted of is (k, o) (λ same. kept k o same represents.0) within in
     (own, (taken_as wanted of is k o fits.0 fits.1).0, one_read wanted of is k o fits.0 fits.1)

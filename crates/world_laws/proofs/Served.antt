@@ -10,25 +10,25 @@ use Rattle.history.specs.History.{History, up_to}
 use Rattle.history.specs.History as history
 use Rattle.history.specs.Seen.{selected}
 use Rattle.requests.specs.ReplyBytes.{chunk, chunks, end_bytes, watch_head}
-use Rattle.httpedge.specs.Connections.{Connection, Standing, ended, gone, waiting, watching, with_written}
-use Rattle.httpedge.specs.Steps.{has_no_next, standing_after, turn_bytes}
+use Rattle.httpedge.specs.Connections.{Connection, Phase, ended, gone, waiting, watching, with_written}
+use Rattle.httpedge.specs.Steps.{has_no_next, phase_after, turn_bytes}
 use Rattle.httpedge.specs.Watches.{Turn, Watch}
-use Rattle.reflector.proofs.Follows.{items_heard}
+use Rattle.reflector.proofs.Follows.{items_received}
 use Rattle.reflector.proofs.Reached.{all_stay}
 use Rattle.reflector.proofs.Grows.{follows_later}
-use Rattle.reflector.specs.Client.{Client, follow}
-use Rattle.reflector.specs.Follows.{Follows, GoesOn, IsLater, Watches}
-use Rattle.reflector.specs.Run.{hears_all}
-use Rattle.wireclient.specs.Lines.{HasNoFeed, IsLine, with_feed}
+use Rattle.reflector.specs.Client.{Client, streaming}
+use Rattle.reflector.specs.FollowsLaws.{Follows, FollowsFrom, IsLater, IsWatchReply}
+use Rattle.reflector.specs.Run.{receives_all}
+use Rattle.wireclient.specs.LineLaws.{HasNoFeed, IsLine, with_feed}
 use Rattle.wireclient.specs.Reads.{Items, has_closed}
-use Rattle.wireclient.specs.Reply.{Told, head, line}
-use Rattle.wire_laws.specs.Watched.{end_told, lines_told}
-use Rattle.world_laws.proofs.Holds.{IsRead, IsServed, Stands}
+use Rattle.wireclient.specs.Reply.{ReplyItem, head, line}
+use Rattle.wire_laws.specs.Watched.{end_sent, lines_sent}
+use Rattle.world_laws.proofs.RunInvariant.{IsRead, IsServed, ReadInvariant}
 use Rattle.world_laws.proofs.Mirror.{mirrored, server_of}
 use Rattle.world_laws.proofs.OneWorld.{same_rest}
 use Rattle.world_laws.proofs.Passes.{GoesOnAt, IsTaskWatch, TurnComes}
 use Rattle.world_laws.proofs.Laws.{Laws}
-use Rattle.world_laws.proofs.Telling.{FitOrClose, closed_behind, fit_or_close, follows_more, lines_are_told}
+use Rattle.world_laws.proofs.Sending.{FitOrClose, closed_behind, fit_or_close, follows_more, lines_are_sent}
 use Rattle.world_laws.specs.Tasks.{Task, selection, wanted_by}
 use Rattle.world_laws.specs.World.{ClientConnection, Receives}
 
@@ -38,28 +38,28 @@ pub later_server : (task : Task) (h g : History) → h.current ≤ g.current →
 later_server task h g higher same =
     record { same = λ r come. ap (λ cs. mirrored (wanted_by task) (selected (selection task) (history.changed fin.empty cs))) (same r come); higher = higher; tokens = λ r objects token come. refl }
 
-stands_later : (task : Task) (h g : History) (c : Client) (unsent : List ℕ) (to : ℕ) (items : List Told) (written : List ℕ) (st : Standing) → h.current ≤ g.current
-    → Stands task h c unsent to items written st → Stands task g c unsent to items written st
-stands_later task h g c unsent to items written (waiting front) higher is = is
-stands_later task h g c unsent to items written (watching w) higher (inl is) =
+represents_later : (task : Task) (h g : History) (c : Client) (unsent : List ℕ) (to : ℕ) (items : List ReplyItem) (written : List ℕ) (st : Phase) → h.current ≤ g.current
+    → ReadInvariant task h c unsent to items written st → ReadInvariant task g c unsent to items written st
+represents_later task h g c unsent to items written (waiting prefix) higher is = is
+represents_later task h g c unsent to items written (watching w) higher (inl is) =
     let come : to ≤ h.current = is.come in
-    inl (record { own = is.own; position = is.position; come = omega (arith, come, higher); asks = is.asks; texts = is.texts; lines = is.lines; is_written = is.is_written; are = is.are })
-stands_later task h g c unsent to items written (watching w) higher (inr closed) = inr closed
-stands_later task h g c unsent to items written ended higher is = tt
-stands_later task h g c unsent to items written (gone had_ended) higher is = tt
+    inl (record { own = is.own; position = is.position; come = omega (arith, come, higher); sync = is.sync; texts = is.texts; lines = is.lines; is_written = is.is_written; are = is.are })
+represents_later task h g c unsent to items written (watching w) higher (inr closed) = inr closed
+represents_later task h g c unsent to items written ended higher is = tt
+represents_later task h g c unsent to items written (gone had_ended) higher is = tt
 
 pub served_later : (task : Task) (h g : History) (m : ℕ) (c : Client) (own : ClientConnection) (conn : Connection) → h.current ≤ g.current → IsLater (server_of task h) (server_of task g)
     → IsServed task h m c own conn → IsServed task g m c own conn
 served_later task h g m c own conn higher is_later is =
     record {
       within = is.within;
-      told = is.told;
+      sent = is.sent;
       coming = is.coming;
       to = is.to;
       read = is.read;
       all = is.all;
       follows = follows_later (server_of task h) (server_of task g) (wanted_by task) is_later m c is.coming is.to is.follows;
-      stands = stands_later task h g c own.unsent is.to (is.told ++ is.coming) conn.written conn.standing higher is.stands;
+      represents = represents_later task h g c own.unsent is.to (is.sent ++ is.coming) conn.written conn.phase higher is.represents;
     }
 
 -- ---- its watch has a turn
@@ -78,76 +78,76 @@ written_more written texts more lines b is are =
     (chunks_more (map with_feed texts) (map with_feed more) b ∙ ap (λ (l : List (List ℕ)). chunks l b) (sym (map-append with_feed texts more)))
 
 -- what was handed over stays so
-handed_still : (n : ℕ) (written more : List ℕ) (told : List Told) → n ≤ length written → Items (take n written) told → Items (take n (written ++ more)) told
-handed_still n written more told within read = subst (λ (l : List ℕ). Items l told) (sym (take-append-le n written more within)) read
+handed_still : (n : ℕ) (written more : List ℕ) (sent : List ReplyItem) → n ≤ length written → Items (take n written) sent → Items (take n (written ++ more)) sent
+handed_still n written more sent within read = subst (λ (l : List ℕ). Items l sent) (sym (take-append-le n written more within)) read
 
 within_still : (n : ℕ) (written more : List ℕ) → n ≤ length written → n ≤ length (written ++ more)
 within_still n written more within = let both : length (written ++ more) ≡ length written + length more = length-append written more in omega (arith, within, both)
 
 -- the watch goes on behind these texts, or the client reads no more
-goes_on : (task : Task) (h : History) (c : Client) (unsent : List ℕ) (to : ℕ) (items : List Told) (written : List ℕ) (texts more : List (List ℕ)) (next : Option Watch) → c.asks ≡ follow → All IsLine texts
-    → FitOrClose more (end_told (has_no_next next)) → GoesOnAt task h to next → written ≡ watch_head 200 ++ chunks (map with_feed (texts ++ more)) (has_no_next next)
-    → items ≡ head 200 ∷ (map line texts ++ lines_told more (end_told (has_no_next next))) → Stands task h c unsent to items written (standing_after next)
+goes_on : (task : Task) (h : History) (c : Client) (unsent : List ℕ) (to : ℕ) (items : List ReplyItem) (written : List ℕ) (texts more : List (List ℕ)) (next : Option Watch) → c.sync ≡ streaming → All IsLine texts
+    → FitOrClose more (end_sent (has_no_next next)) → GoesOnAt task h to next → written ≡ watch_head 200 ++ chunks (map with_feed (texts ++ more)) (has_no_next next)
+    → items ≡ head 200 ∷ (map line texts ++ lines_sent more (end_sent (has_no_next next))) → ReadInvariant task h c unsent to items written (phase_after next)
 goes_on task h c unsent to items written texts more None asks lines fit next is are = tt
 goes_on task h c unsent to items written texts more (Some w) asks lines (inl fit) next is are =
     inl (record {
       own = next.0;
       position = next.1;
       come = next.2;
-      asks = asks;
+      sync = asks;
       texts = texts ++ more;
       lines = All-append IsLine texts more lines fit;
       is_written = is;
-      are = are ∙ ap (λ (l : List Told). head 200 ∷ l) (sym (lines_are_told texts more [] lines) ∙ ap (λ (l : List (List ℕ)). lines_told l []) (sym (append-nil (texts ++ more))) ∙ lines_are_told (texts ++ more) [] [] (All-append IsLine texts more lines fit) ∙ append-nil (map line (texts ++ more)));
+      are = are ∙ ap (λ (l : List ReplyItem). head 200 ∷ l) (sym (lines_are_sent texts more [] lines) ∙ ap (λ (l : List (List ℕ)). lines_sent l []) (sym (append-nil (texts ++ more))) ∙ lines_are_sent (texts ++ more) [] [] (All-append IsLine texts more lines fit) ∙ append-nil (map line (texts ++ more)));
     })
 goes_on task h c unsent to items written texts more (Some w) asks lines (inr closed) next is are =
-    inr (ap has_closed are ∙ closed_behind (head 200 ∷ map line texts) (lines_told more []) closed)
+    inr (ap has_closed are ∙ closed_behind (head 200 ∷ map line texts) (lines_sent more []) closed)
 
 turn_of : (laws : Laws) (task : Task) (h : History) (m : ℕ) (c : Client) (own : ClientConnection) (conn : Connection) (w : Watch) (turn : Turn) (is : IsServed task h m c own conn)
     → (IsTaskWatch task w → w.cursor.position ≤ h.current → TurnComes task h w.cursor.position turn)
-    → IsRead task h c is.to (is.told ++ is.coming) conn.written w ⊎ (has_closed (is.told ++ is.coming) ≡ true) → IsServed task h m c own (with_written conn (turn_bytes turn) (standing_after turn.next))
+    → IsRead task h c is.to (is.sent ++ is.coming) conn.written w ⊎ (has_closed (is.sent ++ is.coming) ≡ true) → IsServed task h m c own (with_written conn (turn_bytes turn) (phase_after turn.next))
 turn_of laws task h m c own conn w turn is will (inr closed) =
     record {
       within = within_still own.handed conn.written (turn_bytes turn) is.within;
-      told = is.told;
+      sent = is.sent;
       coming = is.coming;
       to = is.to;
-      read = handed_still own.handed conn.written (turn_bytes turn) is.told is.within is.read;
-      all = laws.closed conn.written (turn_bytes turn) (is.told ++ is.coming) is.all closed;
+      read = handed_still own.handed conn.written (turn_bytes turn) is.sent is.within is.read;
+      all = laws.closed conn.written (turn_bytes turn) (is.sent ++ is.coming) is.all closed;
       follows = is.follows;
-      stands = still turn.next;
+      represents = still turn.next;
     }
   where
-    still : (next : Option Watch) → Stands task h c own.unsent is.to (is.told ++ is.coming) (conn.written ++ turn_bytes turn) (standing_after next)
+    still : (next : Option Watch) → ReadInvariant task h c own.unsent is.to (is.sent ++ is.coming) (conn.written ++ turn_bytes turn) (phase_after next)
     still None = tt
     still (Some w) = inr closed
 turn_of laws task h m c own conn w turn is will (inl reads_on) =
     let comes : TurnComes task h w.cursor.position turn = will reads_on.own (subst (λ (p : ℕ). p ≤ h.current) (sym reads_on.position) reads_on.come) in
-    let last : List Told = end_told (has_no_next turn.next) in
-    let news : List Told = lines_told comes.texts last in
+    let last : List ReplyItem = end_sent (has_no_next turn.next) in
+    let news : List ReplyItem = lines_sent comes.texts last in
     let written = written_more conn.written reads_on.texts comes.texts turn.lines (has_no_next turn.next) reads_on.is_written comes.lines in
     let plain : All HasNoFeed (reads_on.texts ++ comes.texts) = All-append HasNoFeed reads_on.texts comes.texts (All-weaker IsLine HasNoFeed (λ text is. is.one) reads_on.texts reads_on.lines) comes.plain in
-    let items : head 200 ∷ lines_told (reads_on.texts ++ comes.texts) last ≡ is.told ++ (is.coming ++ news) =
-    ap (λ (l : List Told). head 200 ∷ l) (lines_are_told reads_on.texts comes.texts last reads_on.lines) ∙ ap (λ (l : List Told). l ++ news) (sym reads_on.are) ∙ append_assoc is.told is.coming news in
-    let watches : Watches (server_of task h) (wanted_by task) is.to news comes.to = subst (λ (p : ℕ). Watches (server_of task h) (wanted_by task) p news comes.to) reads_on.position comes.watches in
+    let items : head 200 ∷ lines_sent (reads_on.texts ++ comes.texts) last ≡ is.sent ++ (is.coming ++ news) =
+    ap (λ (l : List ReplyItem). head 200 ∷ l) (lines_are_sent reads_on.texts comes.texts last reads_on.lines) ∙ ap (λ (l : List ReplyItem). l ++ news) (sym reads_on.are) ∙ append_assoc is.sent is.coming news in
+    let watches : IsWatchReply (server_of task h) (wanted_by task) is.to news comes.to = subst (λ (p : ℕ). IsWatchReply (server_of task h) (wanted_by task) p news comes.to) reads_on.position comes.watches in
     record {
       within = within_still own.handed conn.written (turn_bytes turn) is.within;
-      told = is.told;
+      sent = is.sent;
       coming = is.coming ++ news;
       to = comes.to;
-      read = handed_still own.handed conn.written (turn_bytes turn) is.told is.within is.read;
-      all = subst (λ (bytes : List ℕ). Items bytes (is.told ++ (is.coming ++ news))) (sym written)
+      read = handed_still own.handed conn.written (turn_bytes turn) is.sent is.within is.read;
+      all = subst (λ (bytes : List ℕ). Items bytes (is.sent ++ (is.coming ++ news))) (sym written)
           (subst (Items (watch_head 200 ++ chunks (map with_feed (reads_on.texts ++ comes.texts)) (has_no_next turn.next))) items (laws.watch (reads_on.texts ++ comes.texts) (has_no_next turn.next) plain));
-      follows = follows_more (server_of task h) (wanted_by task) m c is.coming news is.to comes.to reads_on.asks is.follows watches;
-      stands = goes_on task h c own.unsent comes.to (is.told ++ (is.coming ++ news)) (conn.written ++ turn_bytes turn) reads_on.texts comes.texts turn.next reads_on.asks reads_on.lines
-          (fit_or_close comes.texts last comes.plain) comes.next written (sym items ∙ ap (λ (l : List Told). head 200 ∷ l) (lines_are_told reads_on.texts comes.texts last reads_on.lines));
+      follows = follows_more (server_of task h) (wanted_by task) m c is.coming news is.to comes.to reads_on.sync is.follows watches;
+      represents = goes_on task h c own.unsent comes.to (is.sent ++ (is.coming ++ news)) (conn.written ++ turn_bytes turn) reads_on.texts comes.texts turn.next reads_on.sync reads_on.lines
+          (fit_or_close comes.texts last comes.plain) comes.next written (sym items ∙ ap (λ (l : List ReplyItem). head 200 ∷ l) (lines_are_sent reads_on.texts comes.texts last reads_on.lines));
     }
 
-pub served_turn : (laws : Laws) (task : Task) (h : History) (m : ℕ) (c : Client) (own : ClientConnection) (conn : Connection) (w : Watch) (turn : Turn) → conn.standing ≡ watching w
+pub served_turn : (laws : Laws) (task : Task) (h : History) (m : ℕ) (c : Client) (own : ClientConnection) (conn : Connection) (w : Watch) (turn : Turn) → conn.phase ≡ watching w
     → (IsTaskWatch task w → w.cursor.position ≤ h.current → TurnComes task h w.cursor.position turn)
-    → IsServed task h m c own conn → IsServed task h m c own (with_written conn (turn_bytes turn) (standing_after turn.next))
+    → IsServed task h m c own conn → IsServed task h m c own (with_written conn (turn_bytes turn) (phase_after turn.next))
 served_turn laws task h m c own conn w turn watches will is =
-    turn_of laws task h m c own conn w turn is will (subst (Stands task h c own.unsent is.to (is.told ++ is.coming) conn.written) watches is.stands)
+    turn_of laws task h m c own conn w turn is will (subst (ReadInvariant task h c own.unsent is.to (is.sent ++ is.coming) conn.written) watches is.represents)
 
 -- ---- the client gets a piece of the reply
 
@@ -171,55 +171,55 @@ piece_within k n written piece within is =
     let first : length (take k written ++ piece) ≡ k + length piece = piece_length k written piece within in
     omega (arith, all, both, first)
 
-piece_front : (k n : ℕ) (written piece : List ℕ) → k ≤ length written → take n (drop k written) ≡ piece → take (k + length piece) written ≡ take k written ++ piece
-piece_front k n written piece within is =
+piece_prefix : (k n : ℕ) (written piece : List ℕ) → k ≤ length written → take n (drop k written) ≡ piece → take (k + length piece) written ≡ take k written ++ piece
+piece_prefix k n written piece within is =
     ap (take (k + length piece)) (piece_parts k n written piece is)
     ∙ ap (λ (i : ℕ). take i ((take k written ++ piece) ++ drop n (drop k written))) (sym (piece_length k written piece within))
     ∙ take-append_seam (take k written ++ piece) (drop n (drop k written))
 
 -- the client goes on after bytes that it got, and is served on if it still asks
-pub record IsHeard (task : Task) (h : History) (m : ℕ) (own : ClientConnection) (conn : Connection) (d : Client) : Type 0 where
+pub record IsReceived (task : Task) (h : History) (m : ℕ) (own : ClientConnection) (conn : Connection) (d : Client) : Type 0 where
   pub highest : ℕ
   pub higher : m ≤ highest
-  pub coming : List Told
+  pub coming : List ReplyItem
   pub to : ℕ
   pub follows : Follows (server_of task h) (wanted_by task) highest d coming to
-  pub served : d.is_asking ≡ true → IsServed task h highest d own conn
+  pub served : d.is_awaiting_reply ≡ true → IsServed task h highest d own conn
 
-stands_heard : (task : Task) (h : History) (c d : Client) (unsent : List ℕ) (to : ℕ) (items others : List Told) (written : List ℕ) (st : Standing) → (written ≡ [] → ⊥) → (c.asks ≡ follow → d.asks ≡ follow)
-    → items ≡ others → Stands task h c unsent to items written st → Stands task h d unsent to others written st
-stands_heard task h c d unsent to items others written (waiting front) some asks same is = absurd (some is.0)
-stands_heard task h c d unsent to items others written (watching w) some asks same (inl reads_on) =
+represents_received : (task : Task) (h : History) (c d : Client) (unsent : List ℕ) (to : ℕ) (items others : List ReplyItem) (written : List ℕ) (st : Phase) → (written ≡ [] → ⊥) → (c.sync ≡ streaming → d.sync ≡ streaming)
+    → items ≡ others → ReadInvariant task h c unsent to items written st → ReadInvariant task h d unsent to others written st
+represents_received task h c d unsent to items others written (waiting prefix) some asks same is = absurd (some is.0)
+represents_received task h c d unsent to items others written (watching w) some asks same (inl reads_on) =
     inl (record {
       own = reads_on.own;
       position = reads_on.position;
       come = reads_on.come;
-      asks = asks reads_on.asks;
+      sync = asks reads_on.sync;
       texts = reads_on.texts;
       lines = reads_on.lines;
       is_written = reads_on.is_written;
       are = sym same ∙ reads_on.are;
     })
-stands_heard task h c d unsent to items others written (watching w) some asks same (inr closed) = inr (ap has_closed (sym same) ∙ closed)
-stands_heard task h c d unsent to items others written ended some asks same is = tt
-stands_heard task h c d unsent to items others written (gone had_ended) some asks same is = tt
+represents_received task h c d unsent to items others written (watching w) some asks same (inr closed) = inr (ap has_closed (sym same) ∙ closed)
+represents_received task h c d unsent to items others written ended some asks same is = tt
+represents_received task h c d unsent to items others written (gone had_ended) some asks same is = tt
 
 pub served_on : (laws : Laws) (task : Task) (h : History) (m : ℕ) (c : Client) (own : ClientConnection) (conn : Connection) (n b : ℕ) (bs : List ℕ) (d : Client) → take n (drop own.handed conn.written) ≡ b ∷ bs
-    → Receives true (wanted_by task) c (take own.handed conn.written) (b ∷ bs) d → IsServed task h m c own conn → IsHeard task h m (record own { handed = own.handed + length (b ∷ bs) }) conn d
-served_on laws task h m c own conn n b bs d piece (told, news, before, after, heard) is =
-    let front : List ℕ = take own.handed conn.written in
+    → Receives true (wanted_by task) c (take own.handed conn.written) (b ∷ bs) d → IsServed task h m c own conn → IsReceived task h m (record own { handed = own.handed + length (b ∷ bs) }) conn d
+served_on laws task h m c own conn n b bs d piece (sent, news, before, after, received) is =
+    let prefix : List ℕ = take own.handed conn.written in
     let rest : List ℕ = drop n (drop own.handed conn.written) in
-    let second : Items (front ++ b ∷ bs) (is.told ++ news) =
-    subst (λ (l : List Told). Items (front ++ b ∷ bs) (l ++ news)) (laws.one front told is.told before is.read) after in
-    let whole : Items ((front ++ b ∷ bs) ++ rest) (is.told ++ is.coming) =
-    subst (λ (bytes : List ℕ). Items bytes (is.told ++ is.coming)) (piece_parts own.handed n conn.written (b ∷ bs) piece) is.all in
-    let behind = laws.same (front ++ b ∷ bs) rest (is.told ++ news) (is.told ++ is.coming) second whole in
-    let parted : is.coming ≡ news ++ behind.0 = same_rest is.told is.coming (news ++ behind.0) (behind.1 ∙ append_assoc is.told news behind.0) in
-    let followed : Follows (server_of task h) (wanted_by task) m c (news ++ behind.0) is.to = subst (λ (l : List Told). Follows (server_of task h) (wanted_by task) m c l is.to) parted is.follows in
-    let on : GoesOn (server_of task h) (wanted_by task) m (hears_all (wanted_by task) c news) behind.0 is.to = items_heard (server_of task h) (wanted_by task) m c news behind.0 is.to followed in
+    let second : Items (prefix ++ b ∷ bs) (is.sent ++ news) =
+    subst (λ (l : List ReplyItem). Items (prefix ++ b ∷ bs) (l ++ news)) (laws.one prefix sent is.sent before is.read) after in
+    let whole : Items ((prefix ++ b ∷ bs) ++ rest) (is.sent ++ is.coming) =
+    subst (λ (bytes : List ℕ). Items bytes (is.sent ++ is.coming)) (piece_parts own.handed n conn.written (b ∷ bs) piece) is.all in
+    let behind = laws.same (prefix ++ b ∷ bs) rest (is.sent ++ news) (is.sent ++ is.coming) second whole in
+    let parted : is.coming ≡ news ++ behind.0 = same_rest is.sent is.coming (news ++ behind.0) (behind.1 ∙ append_assoc is.sent news behind.0) in
+    let followed : Follows (server_of task h) (wanted_by task) m c (news ++ behind.0) is.to = subst (λ (l : List ReplyItem). Follows (server_of task h) (wanted_by task) m c l is.to) parted is.follows in
+    let on : FollowsFrom (server_of task h) (wanted_by task) m (receives_all (wanted_by task) c news) behind.0 is.to = items_received (server_of task h) (wanted_by task) m c news behind.0 is.to followed in
     let most : own.handed + length (b ∷ bs) ≤ length conn.written = piece_within own.handed n conn.written (b ∷ bs) is.within piece in
     let some : conn.written ≡ [] → ⊥ = λ none. let long : length conn.written ≡ 0 = ap length none in omega (arith, most, long) in
-    subst (IsHeard task h m (record own { handed = own.handed + length (b ∷ bs) }) conn) (sym heard) (record {
+    subst (IsReceived task h m (record own { handed = own.handed + length (b ∷ bs) }) conn) (sym received) (record {
       highest = on.0;
       higher = on.1;
       coming = behind.0;
@@ -227,13 +227,13 @@ served_on laws task h m c own conn n b bs d piece (told, news, before, after, he
       follows = on.2;
       served = λ asks. record {
         within = most;
-        told = is.told ++ news;
+        sent = is.sent ++ news;
         coming = behind.0;
         to = is.to;
-        read = subst (λ (bytes : List ℕ). Items bytes (is.told ++ news)) (sym (piece_front own.handed n conn.written (b ∷ bs) is.within piece)) second;
+        read = subst (λ (bytes : List ℕ). Items bytes (is.sent ++ news)) (sym (piece_prefix own.handed n conn.written (b ∷ bs) is.within piece)) second;
         all = subst (Items conn.written) behind.1 is.all;
         follows = on.2;
-        stands = stands_heard task h c (hears_all (wanted_by task) c news) own.unsent is.to (is.told ++ is.coming) ((is.told ++ news) ++ behind.0) conn.written conn.standing some
-            (λ follows. all_stay (wanted_by task) c news follows asks) behind.1 is.stands;
+        represents = represents_received task h c (receives_all (wanted_by task) c news) own.unsent is.to (is.sent ++ is.coming) ((is.sent ++ news) ++ behind.0) conn.written conn.phase some
+            (λ follows. all_stay (wanted_by task) c news follows asks) behind.1 is.represents;
       };
     })

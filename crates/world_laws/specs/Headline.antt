@@ -9,7 +9,7 @@ use Rattle.world_laws.specs.World.{World, WorldEvent, start}
 
 -- For every list of events, from the start: each report of a revision has exactly the machine's objects of that revision, and no report
 -- is of a lower revision than one before it; and what the client keeps after the last event is the machine's of its revision, which is
--- not below that of the last report. A front of a run is a run, so the second holds at each moment. The premise on text is that the
+-- not below that of the last report. A prefix of a run is a run, so the second holds at each moment. The premise on text is that the
 -- machine's is Unicode: a server reads no other. The types are those of the start; events may serve others.
 abbrev pub Headline : Type 0
 Headline =

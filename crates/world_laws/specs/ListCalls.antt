@@ -20,5 +20,5 @@ pub record IsListCall (types : List ServedShape) (task : Task) (token : Option T
 
 -- it asks for the next page of the list at the revision, after the last of these objects
 abbrev pub IsNextCall : List ServedShape → Task → ℕ → List Stored → Call → Type 0
-IsNextCall types task revision aside call =
-    (o : Stored) × (last_or None aside ≡ Some o) × IsListCall types task (Some (record { revision = revision; namespace = o.namespace; name = o.name })) call
+IsNextCall types task revision paged_list call =
+    (o : Stored) × (last_or None paged_list ≡ Some o) × IsListCall types task (Some (record { revision = revision; namespace = o.namespace; name = o.name })) call

@@ -33,6 +33,11 @@ abbrev pub Runs : Task → ℕ → World → List WorldEvent → World → List 
 Runs task i w [] v reports = (v ≡ w) × (reports ≡ [])
 Runs task i w (e ∷ es) v reports = (mid : World) × (others : List Report) × Steps task w e mid × Runs task (suc i) mid es v others × (reports ≡ reports_after i w mid ++ others)
 
+-- they lead to this world with these reports, and to no other and with no others
+pub record IsOnlyRun (task : Task) (i : ℕ) (w : World) (es : List WorldEvent) (v : World) (reports : List Report) : Type 0 where
+  pub runs : Runs task i w es v reports
+  pub only : (u : World) (others : List Report) → Runs task i w es u others → (u ≡ v) × (others ≡ reports)
+
 -- ---- when it is right
 
 -- the client's objects are the server's, one for one and in their order: each of the same namespace, name and revision, with the same text

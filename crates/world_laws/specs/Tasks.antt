@@ -10,11 +10,11 @@ use Rattle.history.specs.Seen.{Selection, seen_at}
 use Rattle.selector.specs.Grammar.{parse_selector}
 use Rattle.selector.specs.Requirement.{Requirement}
 use Rattle.lists.specs.Labels.{selection_of}
-use Rattle.lists.specs.Tokens.{IsText}
+use Rattle.lists.specs.TokenLaws.{IsText}
 use Rattle.indexer.specs.Names.{are_distinct}
 use Rattle.indexer.specs.Objects.{Place}
 use Rattle.decoder.specs.Wanted.{Wanted}
-use Rattle.reflector.specs.Faults.{is_namespace_or_all, is_page}
+use Rattle.reflector.specs.Faults.{is_namespace_or_all, is_page_size}
 use Rattle.reflector.specs.Requests.{Settings}
 
 -- what a run is asked for: to mirror the objects of the type with this number, in a namespace or in all, that the selector's text
@@ -61,7 +61,7 @@ or_fault number holds others = if holds then others else Some number
 -- one name, 5 the namespace is no DNS label
 abbrev pub settings_fault : List ServedShape → List (List ℕ) → RunSettings → Option ℕ
 settings_fault types index_names s =
-    or_fault 1 (is_page s.page) (or_fault 2 (is_ok (parse_selector s.selector)) (or_fault 3 (is_some (slice_get types s.kind)) (or_fault 4 (are_distinct index_names) (or_fault 5 (is_namespace_or_all s.namespace) None))))
+    or_fault 1 (is_page_size s.page) (or_fault 2 (is_ok (parse_selector s.selector)) (or_fault 3 (is_some (slice_get types s.kind)) (or_fault 4 (are_distinct index_names) (or_fault 5 (is_namespace_or_all s.namespace) None))))
 
 -- the task of its settings, over these types: the type is the one of the number, with names that no type before it has; the selector
 -- is read; the page's size is lawful, and the namespace, if one is named, a DNS label
@@ -71,7 +71,7 @@ pub record IsTask (types : List ServedShape) (task : Task) : Type 0 where
   pub numbered : type_number task.t.group task.t.version task.t.plural types ≡ Some task.settings.kind
   pub text : IsText task.settings.selector
   pub selector : parse_selector task.settings.selector ≡ Ok task.requirements
-  pub page : is_page task.settings.page ≡ true
+  pub page : is_page_size task.settings.page ≡ true
   pub namespace : is_namespace_or_all task.settings.namespace ≡ true
 
 -- ---- where other types are served

@@ -9,10 +9,10 @@ use Rattle.httpedge.specs.Runs as runs
 use Rattle.httpedge.specs.Steps as edge
 use Rattle.decoder.specs.Wanted.{Wanted}
 use Rattle.reflector.specs.Client.{Cache, Client, fresh}
-use Rattle.reflector.specs.Informer.{due}
-use Rattle.reflector.specs.Run.{asked, closed, hears_all, restarted, taken}
+use Rattle.reflector.specs.InformerViews.{due}
+use Rattle.reflector.specs.Run.{asked, closed, receives_all, restarted, taken}
 use Rattle.wireclient.specs.Reads.{Items}
-use Rattle.wireclient.specs.Reply.{Told}
+use Rattle.wireclient.specs.Reply.{ReplyItem}
 use Rattle.summary.specs.Apply.{apply_request}
 use Rattle.summary.specs.Counts.{summed_of}
 use Rattle.world_laws.specs.Tasks.{Task, client_settings, wanted_by}
@@ -135,13 +135,13 @@ ToServer w n (Some own) v = Delivers w own n (take n own.unsent) v
 -- what a piece of the reply says after the bytes before it; a client that asks nothing doesn't read it
 abbrev pub Receives : Bool → Wanted → Client → List ℕ → List ℕ → Client → Type 0
 Receives false wanted c before piece d = d ≡ c
-Receives true wanted c before piece d = (told : List Told) × (news : List Told) × Items before told × Items (before ++ piece) (told ++ news) × (d ≡ hears_all wanted c news)
+Receives true wanted c before piece d = (sent : List ReplyItem) × (news : List ReplyItem) × Items before sent × Items (before ++ piece) (sent ++ news) × (d ≡ receives_all wanted c news)
 
 -- this piece of the reply comes to the client; with none nothing happens
 abbrev pub Hands : Wanted → World → ClientConnection → List ℕ → World → Type 0
 Hands wanted w own [] v = v ≡ w
 Hands wanted w own (b ∷ bs) v =
-    (d : Client) × Receives w.client.is_asking wanted w.client (take own.handed (reply_on w own)) (b ∷ bs) d
+    (d : Client) × Receives w.client.is_awaiting_reply wanted w.client (take own.handed (reply_on w own)) (b ∷ bs) d
     × (v ≡ after_move (record w { client = d }) (record own { handed = own.handed + length (b ∷ bs) }))
 
 -- the next n bytes of the reply come to the client, or all that are there

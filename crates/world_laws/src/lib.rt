@@ -6,21 +6,24 @@
 #![tactic(auto)]
 
 mod listing;
+mod runs;
 
-ghost use Rattle.std.specs.Prelude.{◌≡◌, ℕ, true, List, None};
+ghost use Rattle.std.specs.Prelude.{◌≡◌, ℕ, true, IfSome, List, None};
 ghost use Rattle.std.specs.List.{All};
 ghost use Rattle.indexer.specs.Names.{are_distinct};
-ghost use Rattle.lists.specs.Tokens.{IsText};
+ghost use Rattle.lists.specs.TokenLaws.{IsText};
 ghost use Rattle.api_types.specs.Named.{has_names};
 ghost use Rattle.api_types.specs.TypesFile.{ServedShape, names_differ};
 ghost use Rattle.httpedge.specs.Runs as runs;
 ghost use Rattle.httpedge.specs.Steps.{State};
 ghost use Rattle.world_laws.specs.Headline.{Headline, OneHistory};
 ghost use Rattle.world_laws.specs.Tasks.{IsStillTask, IsTask, RunSettings, Task, settings_fault};
+ghost use Rattle.world_laws.specs.Reading.{client_reads, server_reads};
 ghost use Rattle.world_laws.specs.Reports.{Report, Runs};
-ghost use Rattle.world_laws.specs.World.{World, WorldEvent};
+ghost use Rattle.world_laws.specs.World.{Steps, World, WorldEvent};
 
 pub use listing::pages_are_answered;
+pub use runs::each_runs;
 
 /// Events lead to one world at most, with one list of reports.
 pub fn one_world()
@@ -29,12 +32,22 @@ pub fn one_world()
     wireclient::one_reading();
 }
 
+/// Each event leads on from each world: the bytes that are read in it, by the server and by the client, are these, as they
+/// lie in memory. So with `one_world` each event leads to one world.
+pub fn each_happens(server: &[u8], client: &[u8])
+    ensures { (task : Task) (w : World) (e : WorldEvent) → IfSome (server_reads task w e) (λ bytes. bytes ≡ server.now) → IfSome (client_reads w e) (λ bytes. bytes ≡ client.now) → (v : World) × Steps task w e v }
+{
+    httpedge::each_steps(server);
+    wireclient::each_reads(client);
+    wireclient::prefixes_stand();
+}
+
 /// Of every run of events from the start each report of the client is right, and so is what it keeps.
 pub fn headline()
     ensures { Headline }
 {
     wireclient::one_reading();
-    wireclient::fronts_stand();
+    wireclient::prefixes_stand();
     wire_laws::watches_are_read();
     wire_laws::refusals_are_read();
     httpedge::machines_grow();
@@ -60,7 +73,7 @@ pub fn tasks_are_made()
 
 /// Whatever happens to a hub, a task over the types that it serves stays one: of the task's type only the shape may become another.
 pub fn tasks_last()
-    ensures { (s t : State) (hs : List runs.Happening) (task : Task) → IsStillTask s.types task → runs.Runs s hs t → IsStillTask t.types task }
+    ensures { (s t : State) (hs : List runs.Action) (task : Task) → IsStillTask s.types task → runs.Runs s hs t → IsStillTask t.types task }
 {
     httpedge::machines_grow();
 }

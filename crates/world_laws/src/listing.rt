@@ -5,7 +5,7 @@ ghost use Rattle.api_types.specs.TypesFile.{ServedShape};
 ghost use Rattle.history.specs.History.{History, Key, state_at};
 ghost use Rattle.history.specs.Seen.{seen_page};
 ghost use Rattle.lists.specs.Lists.{page_limit};
-ghost use Rattle.lists.specs.Tokens.{token_after};
+ghost use Rattle.lists.specs.TokenLaws.{token_after};
 ghost use Rattle.line_laws.specs.Listed.{IsReadAsPage};
 ghost use Rattle.api_request.specs.Calls.{Call};
 ghost use Rattle.verbs.specs.Machine.{AreUnicode, IsMachine};

@@ -1,4 +1,4 @@
-//! Bytes that come in part: every front of each request of the rows, on connections of their own, and the client's own bytes,
+//! Bytes that come in part: every prefix of each request of the rows, on connections of their own, and the client's own bytes,
 //! at each byte.
 
 use crate::events::events;
@@ -8,10 +8,10 @@ use crate::shown::reports_after;
 use httpedge::Event;
 use std::alloc::Global;
 use std::test::Fail;
-use test_rows::{first_word, number, told};
+use test_rows::{first_word, in_words, number};
 use world::{Trace, WorldEvent};
 
-/// The objects that stand before fronts come, the id of the first connection after them, and what a list then reports.
+/// The objects that stand before prefixes come, the id of the first connection after them, and what a list then reports.
 const BEFORE: &str = "create w1; create w2";
 
 const FIRST: u64 = 3;
@@ -23,15 +23,15 @@ fn cut_at(
     alloc: Global,
     settings: &str,
     cut: &str,
-    front: &str,
+    prefix: &str,
     back: &str,
 ) -> Result<String, Fail> {
-    let steps = format!(in alloc; "{front}; {cut}; {back}")?;
+    let steps = format!(in alloc; "{prefix}; {cut}; {back}")?;
     let all = events(alloc, steps.as_str())?;
-    let before = front.split("; ").count();
+    let before = prefix.split("; ").count();
     match ran(alloc, settings, &all)? {
         Ok(trace) => Ok(reports_after(alloc, &trace, before)?),
-        Err(fault) => told(alloc, fault),
+        Err(fault) => in_words(alloc, fault),
     }
 }
 
@@ -40,12 +40,12 @@ pub fn cuts(alloc: Global, settings: &str, words: &str) -> Result<String, Fail> 
     let (word, words) = first_word(words);
     let (least, words) = first_word(words);
     let (most, words) = first_word(words);
-    let (front, back) = words.split_once(" <- ").ok_or("no events behind")?;
+    let (prefix, back) = words.split_once(" <- ").ok_or("no events behind")?;
     let mut shown = String::new(alloc);
     let mut last = String::new(alloc);
     for n in number(least)?..number(most)?.saturating_add(1) {
         let cut = format!(in alloc; "{word} {n}")?;
-        let next = cut_at(alloc, settings, cut.as_str(), front, back)?;
+        let next = cut_at(alloc, settings, cut.as_str(), prefix, back)?;
         if next.as_str() != last.as_str() {
             shown.push_str(format!(in alloc; "; {n}: {next}")?.as_str())?;
         }
@@ -63,19 +63,24 @@ fn bytes_in(event: &WorldEvent) -> &[u8] {
     }
 }
 
-fn push_front(alloc: Global, all: &mut Vec<WorldEvent>, id: u64, front: &[u8]) -> Result<(), Fail> {
-    let front = Vec::from_slice(alloc, front)?;
+fn push_prefix(
+    alloc: Global,
+    all: &mut Vec<WorldEvent>,
+    id: u64,
+    prefix: &[u8],
+) -> Result<(), Fail> {
+    let prefix = Vec::from_slice(alloc, prefix)?;
     all.push(WorldEvent::Other(Event::Open(id)))?;
-    all.push(WorldEvent::Other(Event::In(id, front)))?;
+    all.push(WorldEvent::Other(Event::In(id, prefix)))?;
     Ok(all.push(WorldEvent::Other(Event::Gone(id)))?)
 }
 
-/// Objects are made; every front of a request comes, each on a connection of its own; the client lists.
-fn fronts_of(alloc: Global, request: &[u8]) -> Result<Vec<WorldEvent>, Fail> {
+/// Objects are made; every prefix of a request comes, each on a connection of its own; the client lists.
+fn prefixes_of(alloc: Global, request: &[u8]) -> Result<Vec<WorldEvent>, Fail> {
     let mut all = events(alloc, BEFORE)?;
     for length in 0..request.len() {
         let id = FIRST.saturating_add(length as u64);
-        push_front(alloc, &mut all, id, &request[..length])?;
+        push_prefix(alloc, &mut all, id, &request[..length])?;
     }
     all.push(WorldEvent::ClientSend)?;
     all.push(WorldEvent::ToServer(usize::MAX))?;
@@ -83,7 +88,7 @@ fn fronts_of(alloc: Global, request: &[u8]) -> Result<Vec<WorldEvent>, Fail> {
     Ok(all)
 }
 
-/// The test fails where a front was answered.
+/// The test fails where a prefix was answered.
 fn expect_unanswered(trace: &Trace, request: &[u8]) -> Result<(), Fail> {
     let end = FIRST.saturating_add(request.len() as u64);
     for entry in trace.written.iter() {
@@ -94,8 +99,8 @@ fn expect_unanswered(trace: &Trace, request: &[u8]) -> Result<(), Fail> {
     Ok(())
 }
 
-fn fronts_come(alloc: Global, request: &[u8]) -> Result<(), Fail> {
-    let all = fronts_of(alloc, request)?;
+fn prefixes_come(alloc: Global, request: &[u8]) -> Result<(), Fail> {
+    let all = prefixes_of(alloc, request)?;
     match ran(alloc, "page=500", &all)? {
         Ok(trace) => {
             expect_unanswered(&trace, request)?;
@@ -105,18 +110,18 @@ fn fronts_come(alloc: Global, request: &[u8]) -> Result<(), Fail> {
             }
             Ok(())
         }
-        Err(fault) => Err(Fail::new(told(alloc, fault)?)),
+        Err(fault) => Err(Fail::new(in_words(alloc, fault)?)),
     }
 }
 
-/// Every front of what an event of a step brings comes; whether it brings something.
+/// Every prefix of what an event of a step brings comes; whether it brings something.
 fn step_comes(alloc: Global, step: &str) -> Result<bool, Fail> {
     let all = events(alloc, step)?;
     let Some(event) = all.first() else {
         return Ok(false);
     };
     let request = bytes_in(event);
-    fronts_come(alloc, request)?;
+    prefixes_come(alloc, request)?;
     Ok(!request.is_empty())
 }
 
@@ -140,15 +145,15 @@ fn steps_of(row: &str) -> &str {
     }
 }
 
-/// Every front of each request of the examples of this name: how many different requests there are.
-pub fn fronts(alloc: Global, name: &str) -> Result<String, Fail> {
+/// Every prefix of each request of the examples of this name: how many different requests there are.
+pub fn prefixes(alloc: Global, name: &str) -> Result<String, Fail> {
     let mut seen = String::new(alloc);
     let mut count = 0u64;
     for row in examples_named(name).lines() {
         for step in steps_of(row).split("; ") {
-            let told = format!(in alloc; ";{step};")?;
-            if !seen.contains(told.as_str()) && step_comes(alloc, step)? {
-                seen.push_str(told.as_str())?;
+            let in_words = format!(in alloc; ";{step};")?;
+            if !seen.contains(in_words.as_str()) && step_comes(alloc, step)? {
+                seen.push_str(in_words.as_str())?;
                 count = count.saturating_add(1);
             }
         }

@@ -13,20 +13,20 @@
 //! | `text NAME` | the text of the object in the last report |
 //! | `carried` | the targets of the client's requests that the link carried |
 //! | `cuts WORD M N FRONT <- BACK` | no event; of runs of their own: the reports behind the events of FRONT, with `WORD M` to `WORD N` between these and those of BACK, each where it first comes (`cutting`) |
-//! | `fronts EXAMPLES` | no event; every front of each request of these examples comes, in runs of their own: how many different requests there are (`cutting`) |
+//! | `fronts EXAMPLES` | no event; every prefix of each request of these examples comes, in runs of their own: how many different requests there are (`cutting`) |
 //!
 //! All events since `from` are run anew with each row. A report is `EVENT REVISION [OBJECT@REVISION ..] {VALUE=COUNT ..}`,
 //! the event by its place among all, the object with its namespace before it where that isn't `default`. Bytes have `|`
 //! for a carriage return and `$` for a line feed; where nothing is to be shown it is `-`.
 
-use crate::cutting::{cuts, fronts};
+use crate::cutting::{cuts, prefixes};
 use crate::events::events;
 use crate::given::{indexes, settings, types, value_of};
 use crate::links::Noting;
 use crate::shown::{index, lengths, reports_after, requested, targets, text_of, written};
 use std::alloc::Global;
 use std::test::Fail;
-use test_rows::{Answers, first_word, mark, number, told};
+use test_rows::{Answers, first_word, in_words, mark, number};
 use world::{Trace, WorldEvent, WorldFault, run, run_over};
 
 #[derive(Drop)]
@@ -133,7 +133,7 @@ impl Play {
                 self.trace = Some(trace);
                 Ok(text)
             }
-            Err(fault) => told(alloc, fault),
+            Err(fault) => in_words(alloc, fault),
         }
     }
 
@@ -177,7 +177,7 @@ impl Answers for Play {
             "carried" => targets(alloc, &self.link.carried),
             "anew" => self.goes_on(alloc, rest, true),
             "cuts" => cuts(alloc, self.words.as_str(), rest),
-            "fronts" => fronts(alloc, rest),
+            "fronts" => prefixes(alloc, rest),
             _ => self.goes_on(alloc, question, false),
         }
     }

@@ -5,8 +5,8 @@ use Rattle.world_laws.proofs.headline.Goals as goal
 pub returns : goal.returns
 returns c = whole_run (record {
   one = c.one_reading.ensures.items;
-  same = c.fronts_stand.ensures.same;
-  closed = c.fronts_stand.ensures.closed;
+  same = c.prefixes_stand.ensures.same;
+  closed = c.prefixes_stand.ensures.closed;
   watch = λ texts has_ended plain. c.watches_are_read.ensures.lines 200 texts has_ended (omega arith) plain;
   asked = λ types bytes d asks. (_, c.refusals_are_read.ensures.asked types bytes d asks);
   full = (_, c.refusals_are_read.ensures.full _ refl);

@@ -7,5 +7,5 @@ pub returns-in-Ok-clause-places : goal.returns-in-Ok-clause-places
 returns-in-Ok-clause-places c =
     in_file (λ v. v.items) (view c.args.file.now) (items_view c.deref.result.now) c.places_among.result (c.in-Ok.ensures.listed ∙ ap (λ vs. Ok (items_view vs)) (sym c.deref.ensures.value)) c.places_among.ensures.places
 
-pub returns-in-Err-clause-told : goal.returns-in-Err-clause-told
-returns-in-Err-clause-told c = none_listed c.in-Err.field-0 (view c.args.file.now) c.new.result.items c.in-Err.ensures.form c.in-Err.ensures.listed c.new.ensures.items
+pub returns-in-Err-clause-reported : goal.returns-in-Err-clause-reported
+returns-in-Err-clause-reported c = none_listed c.in-Err.field-0 (view c.args.file.now) c.new.result.items c.in-Err.ensures.form c.in-Err.ensures.listed c.new.ensures.items

@@ -1,6 +1,6 @@
 use Rattle.std.proofs.Common.{sym, ◌∙◌}
 use Rattle.serde_json.specs.View.{members_view}
-use Rattle.api_types.specs.Seen.{form_view}
+use Rattle.api_types.specs.Views.{form_view}
 use Rattle.api_types.proofs.FaultPlaces.{misfit_here}
 use Rattle.api_types.proofs.locate.form_fault.Goals as goal
 

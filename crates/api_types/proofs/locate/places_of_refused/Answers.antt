@@ -7,10 +7,10 @@ use Rattle.api_types.proofs.locate.places_of_refused.Goals as goal
 pub returns : goal.returns
 returns c refused =
     let t = view c.args.value.now in
-    let told = c.in_ok-placed.field-0 in
-    let (same, number, none) = c.in_ok-placed.ensures in (
-      begun c.args.own (type_of t) told c.in_ok-all.all.items c.insert.new.self.items refused c.in_ok-insert.ensures.items same,
-      whole_first c.args.number t c.args.own told c.in_ok-all.all.items c.insert.new.self.items c.in_ok-insert.ensures.items same number none (fails_by c.args.own (type_of t) refused) (c.in_ok-all.ensures c.in_ok-broken.ensures),
+    let reported = c.in_ok-located.field-0 in
+    let (same, number, none) = c.in_ok-located.ensures in (
+      begun c.args.own (type_of t) reported c.in_ok-all.all.items c.insert.new.self.items refused c.in_ok-insert.ensures.items same,
+      whole_first c.args.number t c.args.own reported c.in_ok-all.all.items c.insert.new.self.items c.in_ok-insert.ensures.items same number none (fails_by c.args.own (type_of t) refused) (c.in_ok-all.ensures c.in_ok-broken.ensures),
     )
 
 pub returns-then-begins_by : goal.returns-then-begins_by

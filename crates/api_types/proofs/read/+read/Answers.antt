@@ -6,7 +6,7 @@ use Rattle.serde_json.proofs.Views.{view-lookup, view-Object, view_of_ref}
 use Rattle.schema.specs.Shape.{shape, map_of, list_of, kind_of, fields_in}
 use Rattle.api_types.specs.TypesFile.{schema_at, shape_in, properties_in, fields_at, fields_of, one_field}
 use Rattle.api_types.specs.Forms.{own_form, list_form}
-use Rattle.api_types.specs.Seen.{Gives, Fails, form_view}
+use Rattle.api_types.specs.Views.{Returns, FailsWith, form_view}
 use Rattle.api_types.proofs.Items.{items_lawful}
 use Rattle.api_types.proofs.Reading.{schema_at-is, schema_or, properties_in-is, fields_or, after, after_none, both_none, pushed, passed_on, fails_first}
 use Rattle.schema.specs.declared.schema.Schema.{Schema}
@@ -22,7 +22,7 @@ schema_at-returns-in-Some-clause-read t c =
     let looked : option_map (λ v. view v.now) c.get.result ≡ get_member c.args.name.now ms = view_of_ref c.get.result ∙ ap (option_map view) c.get.ensures.value ∙ view-lookup c.args.name.now c.args.schema.now.entries in
     let is : schema_at c.args.name.now c.args.depth ms ≡ shape_in (suc c.args.depth) (view c.in-Some.value.now) =
     schema_at-is c.args.name.now c.args.depth ms ∙ ap (schema_or c.args.depth) (sym looked ∙ ap (option_map (λ v. view v.now)) c.in-Some.is) in
-    subst (Gives shape c.read_schema.result) (ap (λ n. shape_in n (view c.in-Some.value.now)) (add-one c.args.depth) ∙ sym is) c.read_schema.ensures.read
+    subst (Returns shape c.read_schema.result) (ap (λ n. shape_in n (view c.in-Some.value.now)) (add-one c.args.depth) ∙ sym is) c.read_schema.ensures.read
 
 pub schema_at-returns-in-None-clause-read : goal.schema_at-returns-in-None-clause-read
 schema_at-returns-in-None-clause-read t c =
@@ -36,7 +36,7 @@ properties_in-returns-in-Some-clause-read t c =
     let looked : option_map (λ v. view v.now) c.get.result ≡ get_member (codes "properties") ms = view_of_ref c.get.result ∙ ap (option_map view) c.get.ensures.value ∙ view-lookup (codes "properties") c.args.schema.now.entries in
     let is : properties_in c.args.depth ms ≡ fields_at c.args.depth (view c.in-Some.value.now) =
     properties_in-is c.args.depth ms ∙ ap (fields_or c.args.depth) (sym looked ∙ ap (option_map (λ v. view v.now)) c.in-Some.is) in
-    subst (Gives (λ v. fields_in v.items) c.read_fields.result) (sym is) c.read_fields.ensures.read
+    subst (Returns (λ v. fields_in v.items) c.read_fields.result) (sym is) c.read_fields.ensures.read
 
 pub properties_in-returns-in-None-clause-read : goal.properties_in-returns-in-None-clause-read
 properties_in-returns-in-None-clause-read t c =
@@ -72,8 +72,8 @@ read_fields-returns-in_err-inner-clause-read t c =
     let p = err_from_is_err_and c.from_residual.result c.from_residual.ensures.1 in
     let fault = c.in_err-inner.field-0.0 in
     passed_on (λ v. fields_in v.items) p.0 fault c.from_residual.result (fields_at c.args.depth (view c.args.value.now)) p.1 p.2
-    (subst (Fails fault) (sym kept) (fails_first fault (fields_in c.loop-name.fields.items) (string_bytes c.in-Some.name.now) (shape_in (suc c.args.depth) d) left
-    (subst (λ n. Fails fault (shape_in n d)) (add-one c.args.depth) c.in_err-inner.ensures.read)))
+    (subst (FailsWith fault) (sym kept) (fails_first fault (fields_in c.loop-name.fields.items) (string_bytes c.in-Some.name.now) (shape_in (suc c.args.depth) d) left
+    (subst (λ n. FailsWith fault (shape_in n d)) (add-one c.args.depth) c.in_err-inner.ensures.read)))
 
 pub read_object-returns-then-has-clause-read : goal.read_object-returns-then-has-clause-read
 read_object-returns-then-has-clause-read t c =

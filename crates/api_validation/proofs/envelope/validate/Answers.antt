@@ -1,7 +1,7 @@
 use Rattle.std.proofs.Common.{ap, ◌∙◌}
 use Rattle.serde_json.specs.View.{members_view, view}
 use Rattle.serde_json.proofs.Views.{view-Object}
-use Rattle.api_validation.specs.Seen.{expected_of}
+use Rattle.api_validation.specs.Views.{expected_of}
 use Rattle.api_validation.proofs.Rests.{object_seen}
 use Rattle.api_validation.proofs.envelope.validate.Goals as goal
 

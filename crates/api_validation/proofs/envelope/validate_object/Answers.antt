@@ -1,7 +1,7 @@
 use Rattle.std.proofs.Common.{ap, option_map, sym, ◌∙◌}
 use Rattle.serde_json.specs.View.{members_view}
 use Rattle.api_validation.specs.Envelope.{metadata_in}
-use Rattle.api_validation.specs.Seen.{expected_of}
+use Rattle.api_validation.specs.Views.{expected_of}
 use Rattle.api_validation.proofs.Rests.{object_by}
 use Rattle.api_validation.proofs.envelope.validate_object.Goals as goal
 

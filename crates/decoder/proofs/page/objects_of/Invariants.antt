@@ -2,7 +2,7 @@ use Rattle.std.proofs.Common.{◌≡◌, map, drop}
 use Rattle.serde_json.specs.View.{items_view}
 use Rattle.indexer.specs.Objects.{shared_of}
 use Rattle.decoder.specs.Pages.{objects_of}
-use Rattle.decoder.specs.Seen.{wanted_of}
+use Rattle.decoder.specs.Views.{wanted_of}
 use Rattle.decoder.proofs.Listed.{and_more}
 use Rattle.decoder.proofs.page.objects_of.Given as goal
 

@@ -3,7 +3,7 @@ use Rattle.decoder.proofs.Joined.{joined_where_found, joined_nowhere}
 use Rattle.decoder.proofs.wanted.is_joined.Goals as goal
 
 pub returns-in-Some : goal.returns-in-Some
-returns-in-Some c = c.eq.ensures ∙ joined_where_found c.args.front.now c.args.end.now c.args.text.now c.strip_prefix.result c.in-Some.rest c.strip_prefix.ensures.cases c.in-Some.is
+returns-in-Some c = c.eq.ensures ∙ joined_where_found c.args.prefix.now c.args.end.now c.args.text.now c.strip_prefix.result c.in-Some.rest c.strip_prefix.ensures.cases c.in-Some.is
 
 pub returns-in-None : goal.returns-in-None
-returns-in-None c = joined_nowhere c.args.front.now c.args.end.now c.args.text.now c.strip_prefix.result c.strip_prefix.ensures.cases c.in-None.is
+returns-in-None c = joined_nowhere c.args.prefix.now c.args.end.now c.args.text.now c.strip_prefix.result c.strip_prefix.ensures.cases c.in-None.is

@@ -1,5 +1,5 @@
 use Rattle.std.proofs.Common.{◌≡◌, map, take}
-use Rattle.fieldpath.specs.Elems.{element}
+use Rattle.fieldpath.specs.ElementViews.{element}
 use Rattle.fieldpath.proofs.path.copy_elems.Given as goal
 
 abbrev pub invariant-loop-elem : goal.invariant-loop-elem

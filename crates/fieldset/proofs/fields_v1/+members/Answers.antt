@@ -6,7 +6,7 @@ use Rattle.serde_json.specs.declared.value.Value.{Object}
 use Rattle.serde_json.proofs.Views.{members_view-insert_entry, view-Object}
 use Rattle.pathmap.specs.Maps.{contents_in}
 use Rattle.pathmap.proofs.Children.{child_lower}
-use Rattle.pathmap.proofs.Fronts.{drop_next, drop-whole}
+use Rattle.pathmap.proofs.Prefixes.{drop_next, drop-whole}
 use Rattle.schema.specs.Shape.{shape}
 use Rattle.fieldset.specs.Below.{as_item, members_some, members_under}
 use Rattle.fieldset.proofs.Walks.{held_marks, marks_in, members-each, puts, puts_all, puts_next}

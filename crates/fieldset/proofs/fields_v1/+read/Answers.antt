@@ -8,9 +8,9 @@ use Rattle.json_texts.proofs.Parts.{Entry, member_ordered, ordered_parts}
 use Rattle.pathmap.specs.Contents.{over}
 use Rattle.pathmap.specs.Maps.{content}
 use Rattle.pathmap.proofs.Contents.{nothing-over}
-use Rattle.schema.specs.Spots.{spot}
+use Rattle.schema.specs.TypeRefs.{type_ref}
 use Rattle.fieldset.specs.FieldsV1.{needs_members, is_empty, is_marked, read_at, read_members, top}
-use Rattle.fieldset.specs.Seen.{Fails, IsNamed, member_view}
+use Rattle.fieldset.specs.Views.{FailsWith, IsNamed, member_view}
 use Rattle.fieldset.proofs.Lent.{data_in, data_next, data_past, members_ordered, members_smaller, names_ascend, object_is}
 use Rattle.fieldset.proofs.Taking.{added, at_failed, at_object, begin, failed, finish, is_none, nothing_added, passed_on}
 use Rattle.fieldset.proofs.fields_v1.+read.Goals as goal
@@ -18,11 +18,11 @@ use Rattle.fieldset.proofs.fields_v1.+read.Goals.{read_at-then-is_marked, read_a
 
 pub read_members-loop-name-init : goal.read_members-loop-name-init
 read_members-loop-name-init t c =
-    let ms = data_in c.args.members.now in begin (spot c.args.here) ms (content c.in_ok-map.map) ms ms c.in_ok-map.ensures refl (names_ascend c.args.members.now c.requires)
+    let ms = data_in c.args.members.now in begin (type_ref c.args.here) ms (content c.in_ok-map.map) ms ms c.in_ok-map.ensures refl (names_ascend c.args.members.now c.requires)
 
 pub read_members-returns-in_err-member : goal.read_members-returns-in_err-member
 read_members-returns-in_err-member t c =
-    let s = spot c.args.here in
+    let s = type_ref c.args.here in
     let es = c.args.members.now in
     let ms = data_in es in
     let i = c.loop-name.name-index in
@@ -35,7 +35,7 @@ read_members-returns-in_err-member t c =
 
 pub read_members-loop-name-preserved-in_default : goal.read_members-loop-name-preserved-in_default
 read_members-loop-name-preserved-in_default t c =
-    let s = spot c.args.here in
+    let s = type_ref c.args.here in
     let es = c.args.members.now in
     let ms = data_in es in
     let i = c.loop-name.name-index in
@@ -45,7 +45,7 @@ read_members-loop-name-preserved-in_default t c =
 
 pub read_members-loop-name-preserved : goal.read_members-loop-name-preserved
 read_members-loop-name-preserved t c =
-    let s = spot c.args.here in
+    let s = type_ref c.args.here in
     let es = c.args.members.now in
     let ms = data_in es in
     let i = c.loop-name.name-index in
@@ -57,7 +57,7 @@ read_members-loop-name-preserved t c =
 
 pub read_members-returns : goal.read_members-returns
 read_members-returns t c =
-    let s = spot c.args.here in
+    let s = type_ref c.args.here in
     let es = c.args.members.now in
     let ms = data_in es in
     let i = c.loop-name.name-index in
@@ -84,7 +84,7 @@ read_at-read_members-requires t c =
 
 pub read_at-returns-in_err-map : goal.read_at-returns-in_err-map
 read_at-returns-in_err-map t c =
-    let s = spot c.args.here in
+    let s = type_ref c.args.here in
     let ms = data_in c.as_slice-members.result.now in
     let p = err_from_is_err_and c.from_residual.result c.from_residual.ensures.1 in
     let f = c.in_err-map.field-0.0 in
@@ -94,11 +94,11 @@ read_at-returns-in_err-map t c =
       | read_at-else-needs_members-via-else-needs_members w ↦ sym (ap (λ a. a && is_empty ms) w.if-needs_members.ensures)
     ] in
     passed_on content p.0 f c.from_residual.result (read_at s (data_of (value_view c.args.value.now))) p.1 p.2
-    (subst (Fails f) (sym (object_is s c.args.value.now c.in-Object.members c.as_slice-members.result.now c.in-Object.is c.as_slice-members.ensures.value)) (at_failed s ms f has_needed c.in_err-map.ensures))
+    (subst (FailsWith f) (sym (object_is s c.args.value.now c.in-Object.members c.as_slice-members.result.now c.in-Object.is c.as_slice-members.ensures.value)) (at_failed s ms f has_needed c.in_err-map.ensures))
 
 pub read_at-returns : goal.read_at-returns
 read_at-returns t c =
-    let s = spot c.args.here in
+    let s = type_ref c.args.here in
     let ms = data_in c.as_slice-members.result.now in
     let has_needed : (needs_members s && is_empty ms) ≡ false =
     elim c.else-needs_members.branch [

@@ -3,7 +3,7 @@ use Rattle.std.specs.Option.{option_map}
 use Rattle.std.proofs.lemmas.Result.{on_ok_weaker}
 use Rattle.pathmap.specs.Maps.{contents_in}
 use Rattle.pathmap.proofs.Children.{child_lower}
-use Rattle.pathmap.proofs.Fronts.{drop_next, drop-whole}
+use Rattle.pathmap.proofs.Prefixes.{drop_next, drop-whole}
 use Rattle.json_texts.specs.Writing.{with_name, with_text}
 use Rattle.schema.specs.Shape.{shape}
 use Rattle.serde_json.specs.Data.{object}

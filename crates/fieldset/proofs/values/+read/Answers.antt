@@ -5,9 +5,9 @@ use Rattle.serde_json.proofs.Views.{view-Object}
 use Rattle.pathmap.specs.Contents.{over}
 use Rattle.pathmap.specs.Maps.{content}
 use Rattle.pathmap.proofs.Contents.{nothing-over}
-use Rattle.schema.specs.Spots.{spot}
+use Rattle.schema.specs.TypeRefs.{type_ref}
 use Rattle.fieldset.specs.FieldsV1.{needs_members, is_empty, is_marked, read_at, read_members, top}
-use Rattle.fieldset.specs.Seen.{Fails, IsNamed, member_view, read_named}
+use Rattle.fieldset.specs.Views.{FailsWith, IsNamed, member_view, read_named}
 use Rattle.fieldset.proofs.Owning.{names_ascend}
 use Rattle.fieldset.proofs.Taking.{added, at_object, begin, failed, finish, is_none, nothing_added, passed_on}
 use Rattle.fieldset.proofs.values.+read.Goals as goal
@@ -16,23 +16,23 @@ use Rattle.fieldset.proofs.values.+read.Goals.{read_at-then-is_marked, read_at-e
 pub read_members-loop-name-init : goal.read_members-loop-name-init
 read_members-loop-name-init t c =
     let ms = members_view c.args.members.now.entries in
-    begin (spot c.args.here) ms (content c.empty-map.result) (members_view c.into_iter-name-iterator.result) ms c.empty-map.ensures
+    begin (type_ref c.args.here) ms (content c.empty-map.result) (members_view c.into_iter-name-iterator.result) ms c.empty-map.ensures
     (ap members_view (c.into_iter-name-iterator.ensures.into_iter_gives ∙ c.iter-name-items.ensures.rest)) (names_ascend c.args.members.now.entries c.iter-name-items.ensures.ordered)
 
 pub read_members-returns-in_err-member : goal.read_members-returns-in_err-member
 read_members-returns-in_err-member t c =
-    let s = spot c.args.here in
+    let s = type_ref c.args.here in
     let ms = members_view c.args.members.now.entries in
     let d = view c.in-Some.value.now in
     let p = err_from_is_err_and c.from_residual.result c.from_residual.ensures.1 in
     let f = c.in_err-member.field-0.0 in
     passed_on content p.0 f c.from_residual.result (read_members s ms ms) p.1 p.2
     (failed s ms (read_members s ms ms) (content c.loop-name.map) (members_view c.loop-name.name-iterator) (string_bytes c.in-Some.name.now) d (members_view c.next.new.self) (ap members_view c.in-Some.ensures.steps) c.loop-name.invariant f
-    (subst (λ k. Fails f (read_named s ms k d (λ next. read_at next d))) c.as_str.ensures.value c.in_err-member.ensures.read))
+    (subst (λ k. FailsWith f (read_named s ms k d (λ next. read_at next d))) c.as_str.ensures.value c.in_err-member.ensures.read))
 
 pub read_members-loop-name-preserved-in_default : goal.read_members-loop-name-preserved-in_default
 read_members-loop-name-preserved-in_default t c =
-    let s = spot c.args.here in
+    let s = type_ref c.args.here in
     let ms = members_view c.args.members.now.entries in
     let d = view c.in-Some.value.now in
     nothing_added s ms (read_members s ms ms) (content c.loop-name.map) (members_view c.loop-name.name-iterator) (string_bytes c.in-Some.name.now) d (members_view c.next.new.self) (ap members_view c.in-Some.ensures.steps) c.loop-name.invariant
@@ -40,7 +40,7 @@ read_members-loop-name-preserved-in_default t c =
 
 pub read_members-loop-name-preserved : goal.read_members-loop-name-preserved
 read_members-loop-name-preserved t c =
-    let s = spot c.args.here in
+    let s = type_ref c.args.here in
     let ms = members_view c.args.members.now.entries in
     let d = view c.in-Some.value.now in
     added s ms (read_members s ms ms) (content c.loop-name.map) (members_view c.loop-name.name-iterator) (string_bytes c.in-Some.name.now) d (members_view c.next.new.self) (ap members_view c.in-Some.ensures.steps) c.loop-name.invariant
@@ -50,13 +50,13 @@ read_members-loop-name-preserved t c =
 
 pub read_members-returns : goal.read_members-returns
 read_members-returns t c =
-    let s = spot c.args.here in
+    let s = type_ref c.args.here in
     let ms = members_view c.args.members.now.entries in
     finish s ms (read_members s ms ms) (content c.loop-name.map) (members_view c.loop-name.name-iterator) (ap members_view c.in-None.ensures.steps.0) c.loop-name.invariant
 
 pub read_at-returns : goal.read_at-returns
 read_at-returns t c =
-    let s = spot c.args.here in
+    let s = type_ref c.args.here in
     let ms = members_view c.in-Object.members.entries in
     let has_needed : (needs_members s && is_empty ms) ≡ false =
     elim c.else-needs_members.branch [

@@ -1,5 +1,5 @@
 use Rattle.std.proofs.Common.{refl, sym, ap, subst, ◌∙◌}
-use Rattle.api_request.specs.Seen.{call_of, denied_of}
+use Rattle.api_request.specs.Views.{call_of, denied_of}
 use Rattle.verbs.specs.Step.{planned}
 use Rattle.requests.specs.Replies.{answer_bytes}
 use Rattle.requests.specs.Decision.{refused, accepted}
@@ -7,12 +7,12 @@ use Rattle.requests.specs.Pendings.{Finds}
 use Rattle.httpedge.proofs.connection.decided.Goals as goal
 
 pub returns-in_ok-reply-in-Refused-clause-ok : goal.returns-in_ok-reply-in-Refused-clause-ok
-returns-in_ok-reply-in-Refused-clause-ok c = λ types m bytes stands finds.
-    (refused (denied_of c.in-Refused.denied), subst (Finds types bytes) c.in-Refused.is finds, (refl, sym (c.of.ensures ∙ c.in_ok-reply-in-Refused.ensures)), stands)
+returns-in_ok-reply-in-Refused-clause-ok c = λ types m bytes represents finds.
+    (refused (denied_of c.in-Refused.denied), subst (Finds types bytes) c.in-Refused.is finds, (refl, sym (c.of.ensures ∙ c.in_ok-reply-in-Refused.ensures)), represents)
 
 pub returns-in_ok-served-in-Call-clause-ok : goal.returns-in_ok-served-in-Call-clause-ok
-returns-in_ok-served-in-Call-clause-ok c = λ types m bytes stands finds.
-    let served = c.in_ok-served-in-Call.ensures.ok types m stands in
+returns-in_ok-served-in-Call-clause-ok c = λ types m bytes represents finds.
+    let served = c.in_ok-served-in-Call.ensures.ok types m represents in
     let answer = (planned types m (call_of c.in-Call.call)).answer in (
       accepted (call_of c.in-Call.call),
       subst (Finds types bytes) c.in-Call.is finds,

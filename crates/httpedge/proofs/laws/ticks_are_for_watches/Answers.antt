@@ -1,5 +1,5 @@
-use Rattle.httpedge.proofs.Staying.{starved_idle, ticked_idle}
+use Rattle.httpedge.proofs.Staying.{out_of_memory_idle, ticked_idle}
 use Rattle.httpedge.proofs.laws.ticks_are_for_watches.Goals as goal
 
 pub returns : goal.returns
-returns c = record { with_memory = ticked_idle; without_memory = starved_idle }
+returns c = record { with_memory = ticked_idle; without_memory = out_of_memory_idle }

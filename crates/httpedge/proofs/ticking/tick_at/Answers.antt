@@ -2,22 +2,22 @@ use Rattle.std.proofs.Common.{rules, sym, ap}
 use Rattle.std.specs.Prelude.{is_some}
 use Rattle.std.specs.BTreeMap.{get}
 use Rattle.std.specs.Ordering.{nat_cmp}
-use Rattle.httpedge.specs.Held.{found_in, held_or, over_by}
+use Rattle.httpedge.specs.ConnectionViews.{found_in, held_or, over_by}
 use Rattle.httpedge.proofs.Ticked.{found_put, none_ticks, put_keys, some_ticks}
 use Rattle.httpedge.proofs.ticking.tick_at.Goals as goal
 
 pub returns-in-None-clause-ticks : goal.returns-in-None-clause-ticks
-returns-in-None-clause-ticks c = λ types m before had_ended cut stands all.
+returns-in-None-clause-ticks c = λ types m before had_ended cut represents all.
     none_ticks types c.args.ms c.args.id before c.args.held.now c.get_mut.follows.lender-at-none had_ended cut all (sym c.in-None.ensures.value) c.get_mut.follows.holds-at-none
 
 pub returns-in-Some-clause-ticks : goal.returns-in-Some-clause-ticks
-returns-in-Some-clause-ticks c = λ types m before had_ended cut stands all.
+returns-in-Some-clause-ticks c = λ types m before had_ended cut represents all.
     let new = c.tick_on.new.connection in
     let put = ((c.get_mut.follows.holds new).3 (search rules)).0 in
     some_ticks types c.args.ms c.args.id before (found_in c.args.held.now had_ended cut) (found_in (c.get_mut.follows.lender new) had_ended cut) _ new c.tick_on.result all
     (ap (λ o. held_or o (over_by (had_ended c.args.id) (cut c.args.id))) (sym c.in-Some.ensures.value))
     (found_put c.args.held.now (c.get_mut.follows.lender new) had_ended cut c.args.id new put)
-    (λ x holds. c.tick_on.ensures.ticks types m x stands holds) (λ x holds. c.tick_on.ensures.due types x holds)
+    (λ x holds. c.tick_on.ensures.ticks types m x represents holds) (λ x holds. c.tick_on.ensures.due types x holds)
 
 pub returns-in-None-clause-keys : goal.returns-in-None-clause-keys
 returns-in-None-clause-keys c = λ q. ap (λ m. is_some (get nat_cmp m q)) c.get_mut.follows.holds-at-none

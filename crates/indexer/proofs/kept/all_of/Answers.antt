@@ -2,11 +2,11 @@ use Rattle.std.proofs.Common.{◌≡◌, ◌∙◌, ◌++◌, List, [], map, ap,
 use Rattle.indexer.specs.Objects.{Place, Stored, place_of, shared_of}
 use Rattle.indexer.specs.declared.entry.Entry.{Entry}
 use Rattle.indexer.specs.declared.object.ObjectKey.{ObjectKey}
-use Rattle.indexer.proofs.Held.{without_keys, held_objects}
+use Rattle.indexer.proofs.IndexedObjects.{without_keys, held_objects}
 use Rattle.indexer.proofs.kept.all_of.Goals as goal
 
-whole : (told : List (Place × Stored)) (left es : List (ObjectKey × Entry)) → [] ≡ left → told ++ map without_keys left ≡ map without_keys es → told ≡ map without_keys es
-whole told left es none is = sym (append-nil told) ∙ ap (λ (rest : List (ObjectKey × Entry)). told ++ map without_keys rest) none ∙ is
+whole : (emitted : List (Place × Stored)) (left es : List (ObjectKey × Entry)) → [] ≡ left → emitted ++ map without_keys left ≡ map without_keys es → emitted ≡ map without_keys es
+whole emitted left es none is = sym (append-nil emitted) ∙ ap (λ (rest : List (ObjectKey × Entry)). emitted ++ map without_keys rest) none ∙ is
 
 pub returns : goal.returns
 returns c =

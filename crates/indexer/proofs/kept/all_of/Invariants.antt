@@ -1,6 +1,6 @@
 use Rattle.std.proofs.Common.{◌≡◌, ◌++◌, map}
 use Rattle.indexer.specs.Objects.{place_of, shared_of}
-use Rattle.indexer.proofs.Held.{without_keys}
+use Rattle.indexer.proofs.IndexedObjects.{without_keys}
 use Rattle.indexer.proofs.kept.all_of.Given as goal
 
 abbrev pub invariant-loop-key : goal.invariant-loop-key

@@ -1,12 +1,12 @@
 use Rattle.std.proofs.Common.{arith, ◌+◌, ◌≤◌, ◌++◌, ap, ap₂, length, map, subst, sym, vec_capacity, vec_len}
-use Rattle.indexer.proofs.Held.{without_keys}
-use Rattle.indexer.proofs.HandedOut.{placed, one_out, all_out}
+use Rattle.indexer.proofs.IndexedObjects.{without_keys}
+use Rattle.indexer.proofs.HandedOut.{under_key, one_out, all_out}
 use Rattle.indexer.proofs.kept.handed_out.Goals as goal
 
 pub loop-key-init : goal.loop-key-init
 loop-key-init c =
     let gives = c.into_iter-key-iterator.ensures.into_iter_gives in (
-      ap₂ (λ xs ys. map placed xs ++ map without_keys ys) c.requires.none gives.0,
+      ap₂ (λ xs ys. map under_key xs ++ map without_keys ys) c.requires.none gives.0,
       subst (λ es. vec_len c.args.room + length es ≤ vec_capacity c.args.room) (sym gives.0) c.requires.room,
     )
 

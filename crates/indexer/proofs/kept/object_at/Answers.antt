@@ -2,7 +2,7 @@ use Rattle.std.proofs.Common.{◌∙◌, ap, sym, Option, List, ℕ}
 use Rattle.std.specs.Prelude.{option_map}
 use Rattle.indexer.specs.Kept.{seen_of}
 use Rattle.indexer.specs.Objects.{Stored}
-use Rattle.indexer.proofs.Held.{get_held}
+use Rattle.indexer.proofs.IndexedObjects.{get_held}
 use Rattle.indexer.proofs.kept.object_at.Goals as goal
 
 abbrev first : Option (Stored × List (List (List ℕ))) → Option Stored

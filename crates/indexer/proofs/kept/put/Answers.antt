@@ -9,9 +9,9 @@ use Rattle.indexer.specs.declared.entry.Entry.{Entry}
 use Rattle.indexer.specs.declared.object.ObjectKey.{ObjectKey}
 use Rattle.indexer.specs.declared.texts.Texts.{Texts}
 use Rattle.indexer.specs.Keys.{key_cmp, is_same}
-use Rattle.indexer.specs.Kept.{held_in, seen_of, has_key}
+use Rattle.indexer.specs.Kept.{indexed_objects_in, seen_of, has_key}
 use Rattle.indexer.specs.Objects.{place_of_object, shared_of, kept_of, texts_at, is_among, under_at}
-use Rattle.indexer.proofs.Held.{held_insert, held_same, get_held}
+use Rattle.indexer.proofs.IndexedObjects.{held_insert, held_same, get_held}
 use Rattle.indexer.proofs.Written.{shared_key, found_copy, get_found, holds_written, none_removed, same_value}
 use Rattle.indexer.proofs.kept.put.Goals as goal
 use Rattle.indexer.proofs.kept.put.Goals.{After-objects-in-Occupied-1, After-objects-in_default-1, After-drop-remove-in-Err}
@@ -41,14 +41,14 @@ pub returns-in_ok-move_to-in-Occupied-clause-ok : goal.returns-in_ok-move_to-in-
 returns-in_ok-move_to-in-Occupied-clause-ok c =
     let w : Entry = record { object = c.args.object; keys = c.in_ok-kept.kept } in
     held_insert c.args.objects.now c.objects-in-Occupied-1.given.0 c.in_ok-of.field-0 w (ap (λ (m : BTreeMap ObjectKey Entry). m.entries) (written c) ∙ c.in_ok-held.ensures.update.1 w)
-    ∙ ap (λ p. fin.insert (held_in c.args.objects.now) p (shared_of c.args.object, kept_of c.in_ok-kept.kept.items)) (shared_key c.args.object c.as_ref.result.now c.in_ok-of.field-0 c.as_ref.ensures c.in_ok-of.ensures)
-    ∙ ap (λ (ks : List (List (List ℕ))). fin.insert (held_in c.args.objects.now) (place_of_object c.args.object.value) (shared_of c.args.object, ks)) c.in_ok-kept.ensures
+    ∙ ap (λ p. fin.insert (indexed_objects_in c.args.objects.now) p (shared_of c.args.object, kept_of c.in_ok-kept.kept.items)) (shared_key c.args.object c.as_ref.result.now c.in_ok-of.field-0 c.as_ref.ensures c.in_ok-of.ensures)
+    ∙ ap (λ (ks : List (List (List ℕ))). fin.insert (indexed_objects_in c.args.objects.now) (place_of_object c.args.object.value) (shared_of c.args.object, ks)) c.in_ok-kept.ensures
 
 pub returns-in_ok-move_to-in-Occupied-clause-was : goal.returns-in_ok-move_to-in-Occupied-clause-was
 returns-in_ok-move_to-in-Occupied-clause-was c =
     let at : get key_cmp c.args.objects.now c.in_ok-of.field-0 ≡ Some c.insert.result = sym c.in_ok-held.ensures.value ∙ ap (λ e. entry_value e) c.in-Occupied.is ∙ c.insert.ensures.old in
     ap (option_map seen_of) (sym at) ∙ sym (get_held c.args.objects.now c.in_ok-of.field-0)
-    ∙ ap (fin.get (held_in c.args.objects.now)) (shared_key c.args.object c.as_ref.result.now c.in_ok-of.field-0 c.as_ref.ensures c.in_ok-of.ensures)
+    ∙ ap (fin.get (indexed_objects_in c.args.objects.now)) (shared_key c.args.object c.as_ref.result.now c.in_ok-of.field-0 c.as_ref.ensures c.in_ok-of.ensures)
 
 -- ---- nothing stands there
 
@@ -80,8 +80,8 @@ pub returns-in_default-clause-ok : goal.returns-in_default-clause-ok
 returns-in_default-clause-ok c =
     let w : Entry = record { object = c.args.object; keys = c.in_ok-kept.kept } in
     held_insert c.args.objects.now c.objects-in_default-1.given.0 c.in_ok-of.field-0 w (ap (λ (m : BTreeMap ObjectKey Entry). m.entries) (added c) ∙ c.in_ok-held.ensures.update.1 w)
-    ∙ ap (λ p. fin.insert (held_in c.args.objects.now) p (shared_of c.args.object, kept_of c.in_ok-kept.kept.items)) (shared_key c.args.object c.as_ref.result.now c.in_ok-of.field-0 c.as_ref.ensures c.in_ok-of.ensures)
-    ∙ ap (λ (ks : List (List (List ℕ))). fin.insert (held_in c.args.objects.now) (place_of_object c.args.object.value) (shared_of c.args.object, ks)) c.in_ok-kept.ensures
+    ∙ ap (λ p. fin.insert (indexed_objects_in c.args.objects.now) p (shared_of c.args.object, kept_of c.in_ok-kept.kept.items)) (shared_key c.args.object c.as_ref.result.now c.in_ok-of.field-0 c.as_ref.ensures c.in_ok-of.ensures)
+    ∙ ap (λ (ks : List (List (List ℕ))). fin.insert (indexed_objects_in c.args.objects.now) (place_of_object c.args.object.value) (shared_of c.args.object, ks)) c.in_ok-kept.ensures
 
 pub returns-in_default-clause-was : goal.returns-in_default-clause-was
 returns-in_default-clause-was c =
@@ -89,7 +89,7 @@ returns-in_default-clause-was c =
     subst (λ e. MatchEntry e (ContainsKey key_cmp c.args.objects.now c.in_ok-of.field-0 × (get_key key_cmp c.args.objects.now c.in_ok-of.field-0 ≡ Some (entry_key e))) (get key_cmp c.args.objects.now c.in_ok-of.field-0 ≡ None))
     c.in-Vacant.is c.in_ok-held.ensures.found in
     ap (option_map seen_of) (sym absent) ∙ sym (get_held c.args.objects.now c.in_ok-of.field-0)
-    ∙ ap (fin.get (held_in c.args.objects.now)) (shared_key c.args.object c.as_ref.result.now c.in_ok-of.field-0 c.as_ref.ensures c.in_ok-of.ensures)
+    ∙ ap (fin.get (indexed_objects_in c.args.objects.now)) (shared_key c.args.object c.as_ref.result.now c.in_ok-of.field-0 c.as_ref.ensures c.in_ok-of.ensures)
 
 -- taken out again, where the keys were refused
 as_before : (c : After-drop-remove-in-Err) → c.objects-in-Err-1.given.0.entries ≡ c.args.objects.now.entries

@@ -7,7 +7,7 @@ use Rattle.indexer.specs.Keys.{key_cmp, is_same}
 use Rattle.indexer.specs.Kept.{seen_of, has_key}
 use Rattle.indexer.specs.Objects.{texts_at, is_among}
 use Rattle.indexer.proofs.Flags.{taken_out}
-use Rattle.indexer.proofs.Held.{held_remove, get_held}
+use Rattle.indexer.proofs.IndexedObjects.{held_remove, get_held}
 use Rattle.indexer.proofs.Same.{same_bytes, get_copy}
 use Rattle.indexer.proofs.kept.remove.Goals as goal
 

@@ -19,8 +19,8 @@ loop-i-preserved c =
     let s = is_same c.args.key.now in
     record {
       reach = rw length-set (omega (arith, c.in_ok-make_room.ensures.room));
-      told = added old ps i before c.add_each.new.postings c.args.keys.now c.index-keys-i.result n s
-          (λ j k q. c.in_ok-make_room.ensures.same j k q ∙ c.loop-i.invariant.told j k q)
+      emitted = added old ps i before c.add_each.new.postings c.args.keys.now c.index-keys-i.result n s
+          (λ j k q. c.in_ok-make_room.ensures.same j k q ∙ c.loop-i.invariant.emitted j k q)
           c.in_ok-make_room.ensures.room c.index_mut.ensures.value c.loop-i-test.true c.index-keys-i.is
           (λ k q. c.in_ok-add_each.ensures.ok k q
           ∙ ap₂ (λ (ts : List (RcStr Global)) (hs : List (List ℕ)). under before k q || ((is_among (map rc_str_bytes ts) k && not (is_among hs k)) && s q)) c.as_slice.ensures c.keys_at.ensures);
@@ -35,7 +35,7 @@ returns-in_err-make_room-clause-err c =
     rw p.1 (λ j k q. (
       is_among (texts_at (take i c.args.keys.now) j) k,
       c.in_err-make_room.ensures.same j k q
-          ∙ added_some c.args.postings.now.items c.loop-i.postings.items i c.args.keys.now n s c.loop-i.invariant.told j k q,
+          ∙ added_some c.args.postings.now.items c.loop-i.postings.items i c.args.keys.now n s c.loop-i.invariant.emitted j k q,
     ))
 
 pub returns-in_err-add_each-clause-err : goal.returns-in_err-add_each-clause-err
@@ -49,7 +49,7 @@ returns-in_err-add_each-clause-err c =
     let s = is_same c.args.key.now in
     rw p.1
     (failed old ps i before c.add_each.new.postings c.args.keys.now c.index-keys-i.result n s
-    (λ j k q. c.in_ok-make_room.ensures.same j k q ∙ c.loop-i.invariant.told j k q)
+    (λ j k q. c.in_ok-make_room.ensures.same j k q ∙ c.loop-i.invariant.emitted j k q)
     c.in_ok-make_room.ensures.room c.index_mut.ensures.value c.loop-i-test.true c.index-keys-i.is
     (λ k q. (
       (c.in_err-add_each.ensures.err k q).0,

@@ -1,49 +1,49 @@
 use Rattle.std.proofs.Common.{[], ◌≡◌, ◌≤◌, ◌∙◌, add-one, ap, subst, sym, arith}
 use Rattle.std.specs.Io.KnownBytes.{Appends}
-use Rattle.reflector.specs.Informer.{settings_in}
+use Rattle.reflector.specs.InformerViews.{settings_in}
 use Rattle.reflector.specs.Run.{taken}
-use Rattle.mirroring.specs.Telling.{mirror_text}
-use Rattle.mirroring.specs.Turns.{Answers, IsTold, Turns}
-use Rattle.mirroring.proofs.Following.{front_then, mirrors_then, once_same, part_same}
+use Rattle.mirroring.specs.Printing.{mirror_text}
+use Rattle.mirroring.specs.Turns.{Answers, LearnsReason, Turns}
+use Rattle.mirroring.proofs.Following.{prefix_then, mirrors_then, once_same, part_same}
 use Rattle.mirroring.proofs.Texts.{error_is, on_err}
 use Rattle.mirroring.proofs.turning.mirror.Goals as goal
 
 pub returns-in_err-turn-clause-fault : goal.returns-in_err-turn-clause-fault
 returns-in_err-turn-clause-fault g c = λ d is idle.
-    let (m, first, did, run, quiet, before, told) = c.turns.invariant.2 d is idle in
+    let (m, first, did, run, quiet, before, emitted) = c.turns.invariant.2 d is idle in
     let none : (taken m).notices ≡ [] = λ i. [] in
-    let front = part_same _ (settings_in c.args.informer.now).wanted (taken m) _ _ (ap (λ s. s.wanted) c.turns.invariant.1) (c.in_err-turn.ensures.fault (taken m) run (quiet, none)) in
+    let prefix = part_same _ (settings_in c.args.informer.now).wanted (taken m) _ _ (ap (λ s. s.wanted) c.turns.invariant.1) (c.in_err-turn.ensures.fault (taken m) run (quiet, none)) in
     on_err _ _
-    (front_then (Answers (λ a q r b. g.D.Dial.dials a q r b) (λ r. g.D.Reader.Read.remaining r)) (λ a t b. g.D.Dial.learns a t b) (settings_in c.args.informer.now) m c.turns.counter c.args.turns c.args.dialer.now c.turns.dialer
-    d first (g.W.Write.contents c.args.out.now) (g.W.Write.contents c.turns.out) (g.W.Write.contents c.turn.new.out) c.turns-test.true did before told front)
+    (prefix_then (Answers (λ a q r b. g.D.Dial.dials a q r b) (λ r. g.D.Reader.Read.remaining r)) (λ a t b. g.D.Dial.learns a t b) (settings_in c.args.informer.now) m c.turns.counter c.args.turns c.args.dialer.now c.turns.dialer
+    d first (g.W.Write.contents c.args.out.now) (g.W.Write.contents c.turns.out) (g.W.Write.contents c.turn.new.out) c.turns-test.true did before emitted prefix)
 
 pub turns-preserved : goal.turns-preserved
 turns-preserved g c = (
   subst (λ k. k ≤ c.args.turns) (sym (add-one c.turns.counter)) c.turns-test.true,
   c.turn.ensures.settings ∙ c.turns.invariant.1,
   λ d is idle.
-      let (m, first, did, run, quiet, before, told) = c.turns.invariant.2 d is idle in
+      let (m, first, did, run, quiet, before, emitted) = c.turns.invariant.2 d is idle in
       let none : (taken m).notices ≡ [] = λ i. [] in
       let once = once_same (λ b s. g.I.IndexBy.keys b s) (Answers (λ a q r b. g.D.Dial.dials a q r b) (λ r. g.D.Reader.Read.remaining r)) (settings_in c.turns.informer) (settings_in c.args.informer.now)
       c.turns.dialer (taken m) c.turn.new.dialer c.turn.new.informer (g.W.Write.contents c.turns.out) (g.W.Write.contents c.turn.new.out) c.turns.invariant.1
-      (c.in_ok-turn.ensures.told (taken m) run (quiet, none)) in
+      (c.in_ok-turn.ensures.emitted (taken m) run (quiet, none)) in
       mirrors_then (Answers (λ a q r b. g.D.Dial.dials a q r b) (λ r. g.D.Reader.Read.remaining r)) (λ a t b. g.D.Dial.learns a t b) (settings_in c.args.informer.now) m (λ b s. g.I.IndexBy.keys b s) c.turns.counter _
-      c.args.dialer.now c.turns.dialer c.turn.new.dialer c.tell_trouble.new.dialer d first c.turn.new.informer (g.W.Write.contents c.args.out.now) (g.W.Write.contents c.turns.out) (g.W.Write.contents c.turn.new.out)
-      (add-one c.turns.counter) did before told once
-      (subst (λ t. IsTold (λ a t b. g.D.Dial.learns a t b) t c.turn.new.dialer c.tell_trouble.new.dialer) c.trouble.ensures c.tell_trouble.ensures),
+      c.args.dialer.now c.turns.dialer c.turn.new.dialer c.report_relist_reason.new.dialer d first c.turn.new.informer (g.W.Write.contents c.args.out.now) (g.W.Write.contents c.turns.out) (g.W.Write.contents c.turn.new.out)
+      (add-one c.turns.counter) did before emitted once
+      (subst (λ t. LearnsReason (λ a t b. g.D.Dial.learns a t b) t c.turn.new.dialer c.report_relist_reason.new.dialer) c.relist_reason.ensures c.report_relist_reason.ensures),
 )
 
-pub returns-clause-told : goal.returns-clause-told
-returns-clause-told g c = λ d is idle.
-    let (m, first, did, run, quiet, before, told) = c.turns.invariant.2 d is idle in
+pub returns-clause-emitted : goal.returns-clause-emitted
+returns-clause-emitted g c = λ d is idle.
+    let (m, first, did, run, quiet, before, emitted) = c.turns.invariant.2 d is idle in
     let most = c.turns.invariant.0 in
     let over = c.turns-test.false in
     let all : c.turns.counter ≡ c.args.turns = omega (arith, most, over) in
-    (m, first, subst (λ k. Turns (Answers (λ a q r b. g.D.Dial.dials a q r b) (λ r. g.D.Reader.Read.remaining r)) (λ a t b. g.D.Dial.learns a t b) (settings_in c.args.informer.now) k c.args.dialer.now d c.turns.dialer m first) all did, run, told)
+    (m, first, subst (λ k. Turns (Answers (λ a q r b. g.D.Dial.dials a q r b) (λ r. g.D.Reader.Read.remaining r)) (λ a t b. g.D.Dial.learns a t b) (settings_in c.args.informer.now) k c.args.dialer.now d c.turns.dialer m first) all did, run, emitted)
 
 pub returns-in_err-turn-clause-undialled : goal.returns-in_err-turn-clause-undialled
 returns-in_err-turn-clause-undialled g c = λ d is idle.
-    let (m, first, did, run, quiet, before, told) = c.turns.invariant.2 d is idle in
+    let (m, first, did, run, quiet, before, emitted) = c.turns.invariant.2 d is idle in
     let none : (taken m).notices ≡ [] = λ i. [] in
     error_is c.from_residual.result _ _ c.from_residual.ensures.1
     (λ undialled.
@@ -55,5 +55,5 @@ returns-in_err-turn-clause-undialled g c = λ d is idle.
       first,
       did,
       then,
-      subst (λ o. Appends (g.W.Write.contents c.args.out.now) (g.W.Write.contents o) (mirror_text first m.notices)) (sym same) told,
+      subst (λ o. Appends (g.W.Write.contents c.args.out.now) (g.W.Write.contents o) (mirror_text first m.notices)) (sym same) emitted,
     ))

@@ -8,7 +8,7 @@ use Rattle.objects.proofs.managers.carried_entries.Goals.{then-not-is_empty+in_o
 
 pub loop-entry-preserved : goal.loop-entry-preserved
 loop-entry-preserved c =
-    let stands = c.args.stands.now in
+    let present = c.args.present.now in
     let new = c.args.new.now in
     let es = c.args.entries.now in
     let i = c.loop-entry.entry-index in
@@ -18,6 +18,6 @@ loop-entry-preserved c =
     elim c.if-not-is_empty.branch [
       | then-not-is_empty+in_ok-try_copy+in_ok-push w ↦
           ap (λ l. pairs l.items) w.carried-is ∙ ap pairs w.in_ok-push.ensures.items ∙ map-append pair c.loop-entry.carried.items _ ∙ ap₂ (λ l x. l ++ x ∷ []) c.loop-entry.invariant (λ j. (w.in_ok-try_copy.ensures j, d))
-          ∙ sym (one_some stands new es i e c.loop-entry-test.true c.entry-item.is d c.in_ok-paths.ensures (none ∙ w.if-not-is_empty.true))
-      | else-not-is_empty w ↦ ap (λ l. pairs l.items) w.carried-is ∙ c.loop-entry.invariant ∙ sym (one_empty stands new es i e c.loop-entry-test.true c.entry-item.is d c.in_ok-paths.ensures (none ∙ w.if-not-is_empty.false))
+          ∙ sym (one_some present new es i e c.loop-entry-test.true c.entry-item.is d c.in_ok-paths.ensures (none ∙ w.if-not-is_empty.true))
+      | else-not-is_empty w ↦ ap (λ l. pairs l.items) w.carried-is ∙ c.loop-entry.invariant ∙ sym (one_empty present new es i e c.loop-entry-test.true c.entry-item.is d c.in_ok-paths.ensures (none ∙ w.if-not-is_empty.false))
     ]

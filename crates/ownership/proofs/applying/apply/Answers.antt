@@ -7,7 +7,7 @@ use Rattle.objects.specs.Managers.{manager_view}
 use Rattle.objects.specs.Owners.{manager_by, apply_operation}
 use Rattle.objects.specs.Views.{state_of}
 use Rattle.ownership.specs.Results.{conflict_of}
-use Rattle.ownership.proofs.Clauses.{keeps_others, keeps_places, keeps_standing, keeps_leaves, keeps_placed, settles}
+use Rattle.ownership.proofs.Clauses.{keeps_others, keeps_places, keeps_leaf_value, keeps_leaves, keeps_well_typed, settles}
 use Rattle.ownership.proofs.Dropping.{conflicts_are}
 use Rattle.ownership.proofs.Sides.{keeps_apart, keeps_sides, own_content, own_places}
 use Rattle.ownership.proofs.applying.apply.Goals as goal
@@ -27,7 +27,7 @@ returns-then-is_refused c =
       places = λ s places body_places. tt;
       stand = λ before. tt;
       leaves = λ s places body_places before. tt;
-      placed = λ s content placed. tt;
+      well_typed = λ s content well_typed. tt;
       again = tt;
     }
 
@@ -50,8 +50,8 @@ returns c =
       sides = keeps_sides live config m new is;
       apart = keeps_apart live config m new is;
       places = λ s places body_places. keeps_places live body m c.args.force new free is s places (own_places x s config body_places);
-      stand = keeps_standing live body m c.args.force new free is;
+      stand = keeps_leaf_value live body m c.args.force new free is;
       leaves = λ s places body_places. keeps_leaves live body m c.args.force new free is s places (own_places x s config body_places);
-      placed = λ s content. keeps_placed live body m c.args.force new free is s (own_content x s config content);
+      well_typed = λ s content. keeps_well_typed live body m c.args.force new free is s (own_content x s config content);
       again = settles live body m c.args.force new free is;
     }

@@ -7,8 +7,8 @@ use Rattle.objects.specs.Views.{state_of}
 use Rattle.ownership.specs.Sides.{beside_others}
 use Rattle.ownership.specs.Update.{updated}
 use Rattle.ownership.proofs.Changing.{updated_is, update_stands, update_leaves}
-use Rattle.objects.specs.Placed.{IsPlacedState}
-use Rattle.ownership.proofs.Placed.{updated_placed}
+use Rattle.objects.specs.WellTyped.{IsWellTypedState}
+use Rattle.ownership.proofs.WellTyped.{updated_well_typed}
 use Rattle.ownership.proofs.Sides.{beside_content, update_apart, update_sides}
 use Rattle.ownership.proofs.updating.update.Goals as goal
 
@@ -30,6 +30,6 @@ returns c =
       sides = update_sides live c.args.new m after is;
       apart = λ before. update_apart live c.args.new m after is;
       stand = update_stands live new m after is;
-      placed = λ s content placed. subst (IsPlacedState s) (sym is) (updated_placed live new m s (beside_content x s c.args.new live.content content placed.0) placed);
+      well_typed = λ s content well_typed. subst (IsWellTypedState s) (sym is) (updated_well_typed live new m s (beside_content x s c.args.new live.content content well_typed.0) well_typed);
       leaves = update_leaves live new m after is;
     }

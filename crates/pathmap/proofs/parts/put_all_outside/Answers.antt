@@ -4,7 +4,7 @@ use Rattle.pathmap.specs.Levels.{IsRising}
 use Rattle.pathmap.specs.Maps.{contents_in}
 use Rattle.pathmap.specs.Parted.{AreFree, children_outside}
 use Rattle.pathmap.proofs.Contents.{over-nothing}
-use Rattle.pathmap.proofs.Fronts.{drop_next, drop-whole, rising_drop}
+use Rattle.pathmap.proofs.Prefixes.{drop_next, drop-whole, rising_drop}
 use Rattle.pathmap.proofs.Parting.{next}
 use Rattle.pathmap.proofs.parts.put_all_outside.Goals as goal
 

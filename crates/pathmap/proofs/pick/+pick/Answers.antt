@@ -5,7 +5,7 @@ use Rattle.pathmap.specs.Levels.{at_top, AreChildren, IsRising}
 use Rattle.pathmap.specs.Maps.{content_or_nothing, contents_in}
 use Rattle.pathmap.specs.Merged.{first_of, left_of}
 use Rattle.pathmap.specs.Picks.{picked, picked_in}
-use Rattle.pathmap.proofs.Fronts.{drop_next, rising_drop}
+use Rattle.pathmap.proofs.Prefixes.{drop_next, rising_drop}
 use Rattle.pathmap.proofs.Merging.{passed_rises}
 use Rattle.pathmap.proofs.Picking.{picked_children, picks_level, picks_more}
 use Rattle.pathmap.proofs.pick.+pick.Goals as goal

@@ -5,7 +5,7 @@ use Rattle.pathmap.specs.Levels.{IsRising}
 use Rattle.pathmap.specs.Maps.{content_or_nothing, contents_in}
 use Rattle.pathmap.specs.Merged.{first_of, left_of}
 use Rattle.pathmap.specs.Picks.{no_child, picked, picked_in, picks_some}
-use Rattle.pathmap.proofs.Fronts.{drop_next, rising_drop}
+use Rattle.pathmap.proofs.Prefixes.{drop_next, rising_drop}
 use Rattle.pathmap.proofs.Merging.{passed_rises}
 use Rattle.pathmap.proofs.Picking.{none_below, none_more, some_more, top_is, top_picked}
 use Rattle.pathmap.proofs.pick.+picks_none.Goals as goal

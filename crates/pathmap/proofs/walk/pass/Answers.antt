@@ -1,6 +1,6 @@
 use Rattle.std.proofs.Common.{◌++◌, string_bytes, ap, ◌∙◌}
 use Rattle.pathmap.specs.Maps.{contents_in}
-use Rattle.pathmap.proofs.Fronts.{others, passed}
+use Rattle.pathmap.proofs.Prefixes.{others, passed}
 use Rattle.pathmap.proofs.walk.pass.Goals as goal
 
 pub returns-clause-passed : goal.returns-clause-passed

@@ -1,5 +1,5 @@
 use Rattle.std.proofs.Common.{string_bytes, sym, ◌∙◌}
-use Rattle.pathmap.proofs.Fronts.{none_at_all, none_before, others}
+use Rattle.pathmap.proofs.Prefixes.{none_at_all, none_before, others}
 use Rattle.pathmap.proofs.walk.skip.Goals as goal
 
 pub returns-in_default : goal.returns-in_default

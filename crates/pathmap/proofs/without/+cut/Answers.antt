@@ -8,8 +8,8 @@ use Rattle.pathmap.specs.Levels.{AreChildren, IsRising, no_children}
 use Rattle.pathmap.specs.Maps.{content, contents_in}
 use Rattle.pathmap.proofs.Contents.{nothing-over}
 use Rattle.pathmap.proofs.Cutting.{cut_children, gather-cut, names-cut, no_top, set_cut, uncut, without-level, without_all}
-use Rattle.pathmap.proofs.Fronts.{drop_next, drop-whole}
-use Rattle.pathmap.proofs.Halving.{from_none, placed}
+use Rattle.pathmap.proofs.Prefixes.{drop_next, drop-whole}
+use Rattle.pathmap.proofs.Halving.{from_none, well_typed}
 use Rattle.pathmap.proofs.Levels.{held_some}
 use Rattle.pathmap.proofs.Picking.{top_is}
 use Rattle.pathmap.proofs.without.+cut.Goals as goal
@@ -42,22 +42,22 @@ cut-returns-else-is_some t c =
 
 pub cut_child-index_mut-requires : goal.cut_child-index_mut-requires
 cut_child-index_mut-requires t c =
-    let lt = c.stands_at.ensures.within c.if-stands_at.true in
+    let lt = c.is_at.ensures.within c.if-is_at.true in
     let long = c.deref-2.ensures.len in
     omega (arith, lt, long)
 
-pub cut_child-returns-then-stands_at : goal.cut_child-returns-then-stands_at
-cut_child-returns-then-stands_at t c = λ rises.
+pub cut_child-returns-then-is_at : goal.cut_child-returns-then-is_at
+cut_child-returns-then-is_at t c = λ rises.
     let name = string_bytes c.args.name.now in
     set_cut name (content c.args.set.now) c.args.below.now.items 0 c.place_of-place.result c.index_mut.result.now c.cut.new.map
-    ((placed name c.deref.result.now c.deref-2.result.now c.args.below.now.items c.place_of-place.result c.stands_at.result true c.deref.ensures.value c.deref-2.ensures.value rises c.place_of-place.ensures.count c.stands_at.ensures.index c.if-stands_at.true).0 ∙ ap (λ n. Some n) (from_none c.place_of-place.result))
+    ((well_typed name c.deref.result.now c.deref-2.result.now c.args.below.now.items c.place_of-place.result c.is_at.result true c.deref.ensures.value c.deref-2.ensures.value rises c.place_of-place.ensures.count c.is_at.ensures.index c.if-is_at.true).0 ∙ ap (λ n. Some n) (from_none c.place_of-place.result))
     c.index_mut.ensures.value c.cut.ensures
 
-pub cut_child-returns-else-stands_at : goal.cut_child-returns-else-stands_at
-cut_child-returns-else-stands_at t c = λ rises.
+pub cut_child-returns-else-is_at : goal.cut_child-returns-else-is_at
+cut_child-returns-else-is_at t c = λ rises.
     let name = string_bytes c.args.name.now in
     sym (uncut 0 name (content c.args.set.now) (contents_in c.args.below.now.items)
-    (placed name c.deref.result.now c.deref-2.result.now c.args.below.now.items c.place_of-place.result c.stands_at.result false c.deref.ensures.value c.deref-2.ensures.value rises c.place_of-place.ensures.count c.stands_at.ensures.index c.if-stands_at.false).0)
+    (well_typed name c.deref.result.now c.deref-2.result.now c.args.below.now.items c.place_of-place.result c.is_at.result false c.deref.ensures.value c.deref-2.ensures.value rises c.place_of-place.ensures.count c.is_at.ensures.index c.if-is_at.false).0)
 
 pub cut_below-loop-name-preserved : goal.cut_below-loop-name-preserved
 cut_below-loop-name-preserved t c = λ rises.

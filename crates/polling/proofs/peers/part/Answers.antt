@@ -1,10 +1,10 @@
 use Rattle.httpedge.specs.Steps.{goes}
 use Rattle.polling.specs.Happens.{IsOn}
-use Rattle.polling.proofs.Leading.{leads_none, leads_on}
+use Rattle.polling.proofs.Leading.{reaches_none, reaches_on}
 use Rattle.polling.proofs.peers.part.Goals as goal
 
 pub returns-then-is_empty : goal.returns-then-is_empty
-returns-then-is_empty g c = leads_none (IsOn c.args.id) _
+returns-then-is_empty g c = reaches_none (IsOn c.args.id) _
 
 pub returns : goal.returns
-returns g c = leads_on _ _ _ (goes c.args.id) (λ other isnt. isnt) c.hand.ensures.hands
+returns g c = reaches_on _ _ _ (goes c.args.id) (λ other isnt. isnt) c.hand.ensures.hands

@@ -3,5 +3,5 @@ use Rattle.programs.specs.ReplayProgram.{AreNumbered}
 use Rattle.programs.specs.declared.types_refusal.TypesRefusal.{TypesRefusal}
 use Rattle.programs.proofs.types_file.all_numbered.Given as goal
 
-abbrev pub invariant-loop-told : goal.invariant-loop-told
-invariant-loop-told l = (more : List TypesRefusal) → AreNumbered l.told-iterator.rest.items more → AreNumbered l.fn.all.items (l.refusals.items ++ more)
+abbrev pub invariant-loop-reported : goal.invariant-loop-reported
+invariant-loop-reported l = (more : List TypesRefusal) → AreNumbered l.reported-iterator.rest.items more → AreNumbered l.fn.all.items (l.refusals.items ++ more)

@@ -1,5 +1,5 @@
-use Rattle.programs.proofs.TypesText.{tells_of_text}
+use Rattle.programs.proofs.TypesText.{reports_of_text}
 use Rattle.programs.proofs.types_file.types_in.Goals as goal
 
 pub returns : goal.returns
-returns c = tells_of_text c.args.path.now c.args.text.now _ c.refused.result c.in-Ok.ensures.ok (c.refused.ensures c.in-Err-read.ensures)
+returns c = reports_of_text c.args.path.now c.args.text.now _ c.refused.result c.in-Ok.ensures.ok (c.refused.ensures c.in-Err-read.ensures)

@@ -1,11 +1,11 @@
-use Rattle.reflector.proofs.Follows.{given_up, items_heard, is_asked, is_closed, is_fresh, is_taken}
+use Rattle.reflector.proofs.Follows.{given_up, items_received, is_asked, is_closed, is_fresh, is_taken}
 use Rattle.reflector.proofs.Reached.{reaches}
 use Rattle.reflector.proofs.Grows.{follows_later, watches-append}
 use Rattle.reflector.proofs.laws.follows_the_server.Goals as goal
 
 pub returns : goal.returns
 returns c = record {
-  heard = λ server wanted m c xs ys p is. items_heard server wanted m c xs ys p is;
+  received = λ server wanted m c xs ys p is. items_received server wanted m c xs ys p is;
   asked = λ server wanted m c xs ys p q is comes. is_asked server wanted m c xs ys p q is comes;
   closed = λ server wanted m c xs ys p q is. is_closed server wanted m c xs ys p q is;
   given_up = λ server wanted m c xs ys p q is. given_up server wanted m c ys q is.low is.cache;
@@ -13,5 +13,5 @@ returns c = record {
   taken = λ server wanted m c xs p is. is_taken server wanted m c xs p is;
   later = λ server later wanted m c xs p is_later is. follows_later server later wanted is_later m c xs p is;
   written = λ server wanted r p q xs ys is more. watches-append server wanted r p q xs ys is more;
-  reached = λ server wanted m c xs p is asks e. reaches server wanted m c xs p is asks e;
+  reached = λ server wanted m c xs p is sync e. reaches server wanted m c xs p is sync e;
 }

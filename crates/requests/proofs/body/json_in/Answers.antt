@@ -1,5 +1,5 @@
 use Rattle.std.proofs.Common.{ap, sym, ◌∙◌}
-use Rattle.api_request.specs.Seen.{body_seen}
+use Rattle.api_request.specs.Views.{body_seen}
 use Rattle.requests.specs.Bodies.{some_json}
 use Rattle.requests.specs.Decision.{refused}
 use Rattle.requests.proofs.Numbers.{value_read, value_unread, isnt}

@@ -6,15 +6,15 @@ use Rattle.wire.specs.Heads.{max_head}
 use Rattle.requests.specs.Heads.{HeadDecision, ReadsWholeHead}
 use Rattle.requests.specs.Refusals.{head_too_large, refuse}
 use Rattle.requests.specs.Views.{decision_of, head_of}
-use Rattle.requests.proofs.Cuts.{front_short, front_within, reads_at}
+use Rattle.requests.proofs.Cuts.{prefix_short, prefix_within, reads_at}
 use Rattle.requests.proofs.head.read_to.Goals as goal
 
 pub split_at-requires : goal.split_at-requires
-split_at-requires c = front_within c.args.bytes.now c.in-Some.end (sym c.requires ∙ c.in-Some.is)
+split_at-requires c = prefix_within c.args.bytes.now c.in-Some.end (sym c.requires ∙ c.in-Some.is)
 
 pub validate-requires : goal.validate-requires
 validate-requires c =
-    let short = front_short c.args.bytes.now c.in-Some.end (sym c.requires ∙ c.in-Some.is) in
+    let short = prefix_short c.args.bytes.now c.in-Some.end (sym c.requires ∙ c.in-Some.is) in
     let same = c.split_at.ensures.front_len in
     omega (arith, short, same)
 

@@ -3,7 +3,7 @@ use Rattle.std.proofs.lemmas.Fn.{always_returns_same}
 use Rattle.history.specs.Kept.{with_body}
 use Rattle.revtable.specs.Asked.{deletions}
 use Rattle.history.specs.Read.{change_of}
-use Rattle.revtable.proofs.Fronts.{merged_is, read_back}
+use Rattle.revtable.proofs.Prefixes.{merged_is, read_back}
 use Rattle.revtable.proofs.merging.merged.Goals as goal
 
 pub returns : goal.returns

@@ -1,4 +1,4 @@
-use Rattle.revtable.proofs.Fronts.{cut_all, cut_is, got_at}
+use Rattle.revtable.proofs.Prefixes.{cut_all, cut_is, got_at}
 use Rattle.revtable.proofs.merging.reached.Goals as goal
 
 pub returns-in-None-clause-ok : goal.returns-in-None-clause-ok

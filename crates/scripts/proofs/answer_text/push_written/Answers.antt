@@ -1,6 +1,6 @@
 use Rattle.std.proofs.Common.{◌∙◌, ap, map, refl}
 use Rattle.std.specs.List.{flat_map}
-use Rattle.world.specs.Seen.{reply_seen}
+use Rattle.world.specs.Views.{reply_seen}
 use Rattle.scripts.specs.Piped.{part_text, written_part, written_text}
 use Rattle.scripts.proofs.Pushed.{one_pushed}
 use Rattle.scripts.proofs.answer_text.push_written.Goals as goal

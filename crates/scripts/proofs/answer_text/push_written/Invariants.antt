@@ -1,6 +1,6 @@
 use Rattle.std.proofs.Common.{◌≡◌, ◌++◌, drop, map}
 use Rattle.std.specs.List.{flat_map}
-use Rattle.world.specs.Seen.{reply_seen}
+use Rattle.world.specs.Views.{reply_seen}
 use Rattle.scripts.specs.Piped.{part_text, written_part}
 use Rattle.scripts.proofs.answer_text.push_written.Given as goal
 

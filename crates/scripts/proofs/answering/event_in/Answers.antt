@@ -1,5 +1,5 @@
 use Rattle.std.proofs.Common.{option_map, subst, sym}
-use Rattle.world.specs.Seen.{event_seen}
+use Rattle.world.specs.Views.{event_seen}
 use Rattle.scripts.specs.Script.{IsEventLine, ReadsLine}
 use Rattle.scripts.proofs.answering.event_in.Goals as goal
 

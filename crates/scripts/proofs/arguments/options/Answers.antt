@@ -5,7 +5,7 @@ use Rattle.clap.proofs.CallerLemmas.{some_of_text}
 use Rattle.programs.specs.Resources.{resource_in}
 use Rattle.programs.proofs.OptionValues.{number_by, text_is, text_or}
 use Rattle.scripts.specs.PlayerCommand.{default_label, default_page, default_type, player}
-use Rattle.scripts.proofs.PlayerArguments.{fails_by, page_refused, told_by_clap, type_refused, value_at}
+use Rattle.scripts.proofs.PlayerArguments.{fails_by, page_refused, emitted_by_clap, type_refused, value_at}
 use Rattle.scripts.proofs.arguments.options.Goals as goal
 
 pub unwrap-requires : goal.unwrap-requires
@@ -48,7 +48,7 @@ pub returns-in_err-matches-clause-refused : goal.returns-in_err-matches-clause-r
 returns-in_err-matches-clause-refused g c =
     let name = c.args.asked.name.now in
     let words = map g.S.AsStr.text c.args.arguments.now in
-    told_by_clap (fault_of (player name) words) (matches_of (player name) words) c.from_residual-in_err-matches.result c.in_err-matches.field-0.0 c.from_residual-in_err-matches.ensures.1
+    emitted_by_clap (fault_of (player name) words) (matches_of (player name) words) c.from_residual-in_err-matches.result c.in_err-matches.field-0.0 c.from_residual-in_err-matches.ensures.1
     (fails_by {T = ⊤} name _ c.in_ok-player_command.ensures.app words (Err c.in_err-matches.field-0.0) c.in_err-matches.ensures.kinds)
 
 pub returns-in_err-page-clause-refused : goal.returns-in_err-page-clause-refused

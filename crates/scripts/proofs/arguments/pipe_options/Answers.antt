@@ -6,7 +6,7 @@ use Rattle.programs.specs.Resources.{resource_in}
 use Rattle.programs.proofs.OptionValues.{number_by, text_is, text_or}
 use Rattle.scripts.specs.PlayerCommand.{default_label, default_page, default_type, pipe_app}
 use Rattle.scripts.proofs.PipeArguments.{fails_by, value_at}
-use Rattle.scripts.proofs.PlayerArguments.{page_refused, told_by_clap, type_refused}
+use Rattle.scripts.proofs.PlayerArguments.{page_refused, emitted_by_clap, type_refused}
 use Rattle.scripts.proofs.arguments.pipe_options.Goals as goal
 
 pub unwrap-requires : goal.unwrap-requires
@@ -42,7 +42,7 @@ pub returns-in_err-matches-clause-refused : goal.returns-in_err-matches-clause-r
 returns-in_err-matches-clause-refused g c =
     let name = c.args.asked.name.now in
     let words = map g.S.AsStr.text c.args.arguments.now in
-    told_by_clap (fault_of (pipe_app name) words) (matches_of (pipe_app name) words) c.from_residual-in_err-matches.result c.in_err-matches.field-0.0 c.from_residual-in_err-matches.ensures.1
+    emitted_by_clap (fault_of (pipe_app name) words) (matches_of (pipe_app name) words) c.from_residual-in_err-matches.result c.in_err-matches.field-0.0 c.from_residual-in_err-matches.ensures.1
     (fails_by {T = ⊤} name _ c.in_ok-pipe_command.ensures.app words (Err c.in_err-matches.field-0.0) c.in_err-matches.ensures.kinds)
 
 pub returns-in_err-page-clause-refused : goal.returns-in_err-page-clause-refused

@@ -5,11 +5,11 @@ use Rattle.scripts.proofs.Endings.{fails_as, where_it_fails}
 use Rattle.scripts.proofs.piping.answer_all.Goals as goal
 
 pub lines-init : goal.lines-init
-lines-init g c = λ task w stands. first_turn (g.R.Read.remaining c.args.reader.now) (g.W.Write.contents c.args.writer.now) task w c.args.world.now stands
+lines-init g c = λ task w represents. first_turn (g.R.Read.remaining c.args.reader.now) (g.W.Write.contents c.args.writer.now) task w c.args.world.now represents
 
 pub lines-preserved : goal.lines-preserved
-lines-preserved g c = λ task w stands.
-    let at = c.lines.invariant task w stands in
+lines-preserved g c = λ task w represents.
+    let at = c.lines.invariant task w represents in
     let reader = g.R.Read.remaining c.lines.reader in
     let after = g.R.Read.remaining c.answer_next.new.reader in
     let writer = g.W.Write.contents c.lines.writer in
@@ -19,8 +19,8 @@ lines-preserved g c = λ task w stands.
     (subst (λ o. Turns reader after writer new task c.lines.events at.2 world o) c.in-Some.is (c.in_ok-count.ensures.turn task at.2 at.6))
 
 pub returns-in-None-clause-ok : goal.returns-in-None-clause-ok
-returns-in-None-clause-ok g c = λ task w stands.
-    let at = c.lines.invariant task w stands in
+returns-in-None-clause-ok g c = λ task w represents.
+    let at = c.lines.invariant task w represents in
     let reader = g.R.Read.remaining c.lines.reader in
     let after = g.R.Read.remaining c.answer_next.new.reader in
     let writer = g.W.Write.contents c.lines.writer in
@@ -29,16 +29,16 @@ returns-in-None-clause-ok g c = λ task w stands.
     last_turn (g.R.Read.remaining c.args.reader.now) reader after (g.W.Write.contents c.args.writer.now) writer new task w c.lines.world world c.lines.events at
     (subst (λ o. Turns reader after writer new task c.lines.events at.2 world o) c.in-None.is (c.in_ok-count.ensures.turn task at.2 at.6))
 
-pub returns-in_err-count-clause-front : goal.returns-in_err-count-clause-front
-returns-in_err-count-clause-front g c = λ task w stands.
-    let at = c.lines.invariant task w stands in
+pub returns-in_err-count-clause-prefix : goal.returns-in_err-count-clause-prefix
+returns-in_err-count-clause-prefix g c = λ task w represents.
+    let at = c.lines.invariant task w represents in
     where_it_fails c.from_residual.result
     (failed_turn (g.R.Read.remaining c.args.reader.now) (g.R.Read.remaining c.lines.reader) (g.R.Read.remaining c.answer_next.new.reader) (g.W.Write.contents c.args.writer.now) (g.W.Write.contents c.lines.writer)
-    (g.W.Write.contents c.answer_next.new.writer) task w c.lines.world c.lines.events at (c.in_err-count.ensures.front task at.2 at.6))
+    (g.W.Write.contents c.answer_next.new.writer) task w c.lines.world c.lines.events at (c.in_err-count.ensures.prefix task at.2 at.6))
 
 pub returns-in_err-count-clause-ends : goal.returns-in_err-count-clause-ends
 returns-in_err-count-clause-ends g c = fails_as c.from_residual.result c.in_err-count.field-0.0 c.from_residual.ensures.1 c.in_err-count.ensures.ends
 
-pub returns-clause-front : goal.returns-clause-front
-returns-clause-front g c = λ task w stands.
-    no_turn (g.R.Read.remaining c.args.reader.now) (g.R.Read.remaining c.lines.reader) (g.W.Write.contents c.args.writer.now) (g.W.Write.contents c.lines.writer) task w c.lines.world c.lines.events (c.lines.invariant task w stands)
+pub returns-clause-prefix : goal.returns-clause-prefix
+returns-clause-prefix g c = λ task w represents.
+    no_turn (g.R.Read.remaining c.args.reader.now) (g.R.Read.remaining c.lines.reader) (g.W.Write.contents c.args.writer.now) (g.W.Write.contents c.lines.writer) task w c.lines.world c.lines.events (c.lines.invariant task w represents)

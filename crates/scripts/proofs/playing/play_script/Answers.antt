@@ -2,15 +2,15 @@ use Rattle.std.proofs.Common.{[], Err, List, ap, map, refl, inl, inr, subst}
 use Rattle.std.proofs.KnownBytes.{Appends-nil}
 use Rattle.api_types.specs.Served.{types_view}
 use Rattle.world_laws.specs.World.{WorldEvent}
-use Rattle.world.specs.Seen.{event_seen, settings_seen}
+use Rattle.world.specs.Views.{event_seen, settings_seen}
 use Rattle.scripts.specs.Asked.{settings_asked}
-use Rattle.scripts.specs.Plays.{Plays, PlaysFront}
+use Rattle.scripts.specs.Plays.{Plays, PlaysPrefix}
 use Rattle.scripts.specs.Script.{lines_of}
 use Rattle.scripts.proofs.Endings.{asking_spares_link, ends_as, ends_asking, ends_playing, ends_reading, playing_spares_link, reading_spares_link, spares_link, where_it_fails}
 use Rattle.scripts.proofs.playing.play_script.Goals as goal
 
-pub returns-in_err-events-clause-front : goal.returns-in_err-events-clause-front
-returns-in_err-events-clause-front g c = where_it_fails c.from_residual.result ([], inl refl, Appends-nil (g.W.Write.contents c.args.writer.now))
+pub returns-in_err-events-clause-prefix : goal.returns-in_err-events-clause-prefix
+returns-in_err-events-clause-prefix g c = where_it_fails c.from_residual.result ([], inl refl, Appends-nil (g.W.Write.contents c.args.writer.now))
 
 pub returns-in_err-events-clause-ends : goal.returns-in_err-events-clause-ends
 returns-in_err-events-clause-ends g c =
@@ -22,8 +22,8 @@ returns-in_err-events-clause-ends g c =
 pub returns-in_err-events-clause-link : goal.returns-in_err-events-clause-link
 returns-in_err-events-clause-link g c = λ lawful. spares_link _ _ c.from_residual.ensures.1 (reading_spares_link c.in_err-events.field-0.0)
 
-pub returns-in_err-settings-clause-front : goal.returns-in_err-settings-clause-front
-returns-in_err-settings-clause-front g c = where_it_fails c.from_residual-in_err-settings.result ([], inl refl, Appends-nil (g.W.Write.contents c.args.writer.now))
+pub returns-in_err-settings-clause-prefix : goal.returns-in_err-settings-clause-prefix
+returns-in_err-settings-clause-prefix g c = where_it_fails c.from_residual-in_err-settings.result ([], inl refl, Appends-nil (g.W.Write.contents c.args.writer.now))
 
 pub returns-in_err-settings-clause-ends : goal.returns-in_err-settings-clause-ends
 returns-in_err-settings-clause-ends g c =
@@ -36,12 +36,12 @@ returns-in_err-settings-clause-ends g c =
 pub returns-in_err-settings-clause-link : goal.returns-in_err-settings-clause-link
 returns-in_err-settings-clause-link g c = λ lawful. spares_link _ _ c.from_residual-in_err-settings.ensures.1 (asking_spares_link c.in_err-settings.field-0.0 c.in_err-settings.ensures.refused)
 
-pub returns-in_err-replay-clause-front : goal.returns-in_err-replay-clause-front
-returns-in_err-replay-clause-front g c =
+pub returns-in_err-replay-clause-prefix : goal.returns-in_err-replay-clause-prefix
+returns-in_err-replay-clause-prefix g c =
     let s = settings_seen c.in_ok-settings.settings in
-    let front = c.in_err-replay.ensures.front in
-    let played = subst (λ (es : List WorldEvent). PlaysFront (types_view c.args.types) s es front.0) (ap (map event_seen) c.deref.ensures.value) front.1 in
-    where_it_fails c.from_residual-in_err-replay.result (front.0, inr (map event_seen c.in_ok-events.events.items, s, c.in_ok-events.ensures.ok, c.in_ok-settings.ensures.ok, played), front.2)
+    let prefix = c.in_err-replay.ensures.prefix in
+    let played = subst (λ (es : List WorldEvent). PlaysPrefix (types_view c.args.types) s es prefix.0) (ap (map event_seen) c.deref.ensures.value) prefix.1 in
+    where_it_fails c.from_residual-in_err-replay.result (prefix.0, inr (map event_seen c.in_ok-events.events.items, s, c.in_ok-events.ensures.ok, c.in_ok-settings.ensures.ok, played), prefix.2)
 
 pub returns-in_err-replay-clause-ends : goal.returns-in_err-replay-clause-ends
 returns-in_err-replay-clause-ends g c =

@@ -1,5 +1,5 @@
 use Rattle.std.proofs.Common.{◌≡◌, ◌++◌, ℕ, List, map, take}
-use Rattle.world.specs.Seen.{reply_seen}
+use Rattle.world.specs.Views.{reply_seen}
 use Rattle.scripts.specs.Output.{replies_in}
 use Rattle.scripts.specs.Parts.{IsSetOf, part_seen}
 use Rattle.scripts.proofs.printing.push_replies.Given as goal

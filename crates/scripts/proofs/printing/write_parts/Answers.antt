@@ -2,10 +2,10 @@ use Rattle.std.proofs.Common.{◌≡◌, ◌∙◌, ◌++◌, ◌+◌, ℕ, List
 use Rattle.std.specs.Io.KnownBytes.{Appends}
 use Rattle.std.proofs.KnownBytes.{Appends-nil, Appends-trans}
 use Rattle.std.proofs.lemmas.List.{take_all, take-map}
-use Rattle.scripts.specs.Output.{Prints, PrintsFront}
+use Rattle.scripts.specs.Output.{Prints, PrintsPrefix}
 use Rattle.scripts.specs.Parts.{part_seen}
 use Rattle.scripts.proofs.Endings.{output_as, where_it_fails}
-use Rattle.scripts.proofs.OutputLemmas.{front_at, front_within, prints_more, seen_more}
+use Rattle.scripts.proofs.OutputLemmas.{prefix_at, prefix_within, prints_more, seen_more}
 use Rattle.scripts.proofs.printing.write_parts.Goals as goal
 
 pub loop-part-init : goal.loop-part-init
@@ -26,18 +26,18 @@ returns-clause-ok g c =
     let all = c.loop-part.invariant in
     (all.0, subst (λ ps. Prints (map part_seen ps) all.0) (take_all c.loop-part.part-index c.args.parts.now c.loop-part-test.false) all.1, all.2)
 
-pub returns-in_err-text-clause-front : goal.returns-in_err-text-clause-front
-returns-in_err-text-clause-front g c =
+pub returns-in_err-text-clause-prefix : goal.returns-in_err-text-clause-prefix
+returns-in_err-text-clause-prefix g c =
     let all = c.loop-part.invariant in
-    where_it_fails c.from_residual.result (all.0, front_at _ c.loop-part.part-index all.0 (subst (λ ps. Prints ps all.0) (sym (take-map part_seen c.loop-part.part-index c.args.parts.now)) all.1), all.2)
+    where_it_fails c.from_residual.result (all.0, prefix_at _ c.loop-part.part-index all.0 (subst (λ ps. Prints ps all.0) (sym (take-map part_seen c.loop-part.part-index c.args.parts.now)) all.1), all.2)
 
 pub returns-in_err-text-clause-fault : goal.returns-in_err-text-clause-fault
 returns-in_err-text-clause-fault g c = output_as _ _ c.from_residual.ensures.1 tt
 
-pub returns-in_err-write-clause-front : goal.returns-in_err-write-clause-front
-returns-in_err-write-clause-front g c =
+pub returns-in_err-write-clause-prefix : goal.returns-in_err-write-clause-prefix
+returns-in_err-write-clause-prefix g c =
     let before = c.loop-part.invariant in
-    let some = c.in_err-write.ensures.front in
+    let some = c.in_err-write.ensures.prefix in
     let next = c.loop-part.part-index + 1 in
     let parts = map part_seen c.args.parts.now in
     let whole = sym c.deref.ensures.value ∙ some.2 in
@@ -46,7 +46,7 @@ returns-in_err-write-clause-front g c =
     let printed = subst (λ ps. Prints ps (before.0 ++ c.in_ok-text.text.items)) (sym (take-map part_seen next c.args.parts.now)) all in
     where_it_fails c.from_residual-in_err-write.result (
       before.0 ++ some.0,
-      front_within parts next before.0 some.0 some.1 (subst (λ (s : List ℕ). Prints (take next parts) (before.0 ++ s)) whole printed),
+      prefix_within parts next before.0 some.0 some.1 (subst (λ (s : List ℕ). Prints (take next parts) (before.0 ++ s)) whole printed),
       Appends-trans _ _ _ _ _ before.2 some.3,
     )
 

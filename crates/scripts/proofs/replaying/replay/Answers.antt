@@ -6,7 +6,7 @@ use Rattle.api_types.specs.Served.{types_view}
 use Rattle.api_types.specs.TypesFile.{ServedShape}
 use Rattle.world_laws.specs.Tasks.{RunSettings, settings_fault}
 use Rattle.world_laws.specs.World.{WorldEvent}
-use Rattle.world.specs.Seen.{event_seen, settings_seen}
+use Rattle.world.specs.Views.{event_seen, settings_seen}
 use Rattle.world.specs.Traces.{IsTraceOf}
 use Rattle.world.specs.declared.trace.Trace.{Trace}
 use Rattle.scripts.specs.Plays.{Answers, IsRun, index_names, namespace_keys}
@@ -23,8 +23,8 @@ named : (b : ByNamespace) (indexes : List ByNamespace) (types : List ServedShape
     → settings_fault types (map (λ i. codes "namespace") indexes) s ≡ settings_fault types index_names s
 named b indexes types s one = ap (λ (is : List ByNamespace). settings_fault types (map (λ i. codes "namespace") is) s) one
 
-pub returns-in_err-trace-clause-front : goal.returns-in_err-trace-clause-front
-returns-in_err-trace-clause-front g c = where_it_fails c.from_residual-in_err-trace.result ([], inl refl, Appends-nil (g.W.Write.contents c.args.writer.now))
+pub returns-in_err-trace-clause-prefix : goal.returns-in_err-trace-clause-prefix
+returns-in_err-trace-clause-prefix g c = where_it_fails c.from_residual-in_err-trace.result ([], inl refl, Appends-nil (g.W.Write.contents c.args.writer.now))
 
 pub returns-in_err-trace-clause-settings : goal.returns-in_err-trace-clause-settings
 returns-in_err-trace-clause-settings g c =
@@ -37,12 +37,12 @@ returns-in_err-trace-clause-link g c = λ lawful. run_spares_link _ c.in_err-tra
 pub returns-clause-ok : goal.returns-clause-ok
 returns-clause-ok g c =
     let run = run_of _ _ (types_view c.args.types) (settings_seen c.args.settings) (map event_seen c.args.events.now) c.in_ok-trace.trace c.in_ok-indexes.ensures.items c.in_ok-trace.ensures.runs in
-    on_ok_weaker c.print.result (λ told. (told.0, (c.in_ok-trace.trace, run, told.1), told.2)) c.print.ensures.ok
+    on_ok_weaker c.print.result (λ emitted. (emitted.0, (c.in_ok-trace.trace, run, emitted.1), emitted.2)) c.print.ensures.ok
 
-pub returns-clause-front : goal.returns-clause-front
-returns-clause-front g c =
+pub returns-clause-prefix : goal.returns-clause-prefix
+returns-clause-prefix g c =
     let run = run_of _ _ (types_view c.args.types) (settings_seen c.args.settings) (map event_seen c.args.events.now) c.in_ok-trace.trace c.in_ok-indexes.ensures.items c.in_ok-trace.ensures.runs in
-    on_err_weaker c.print.result (λ told. (told.0, inr (c.in_ok-trace.trace, run, told.1), told.2)) c.print.ensures.front
+    on_err_weaker c.print.result (λ emitted. (emitted.0, inr (c.in_ok-trace.trace, run, emitted.1), emitted.2)) c.print.ensures.prefix
 
 pub returns-clause-settings : goal.returns-clause-settings
 returns-clause-settings g c =

@@ -1,6 +1,6 @@
 use Rattle.std.proofs.Common.{◌∙◌, ap, option_map, sym}
 use Rattle.std.proofs.lemmas.Result.{IfOk-weaker}
-use Rattle.scripts.specs.Seen.{line_view}
+use Rattle.scripts.specs.Views.{line_view}
 use Rattle.scripts.proofs.ScriptLemmas.{reads_none, reads_some}
 use Rattle.scripts.proofs.script.read_line.Goals as goal
 

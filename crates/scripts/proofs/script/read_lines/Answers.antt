@@ -1,6 +1,6 @@
 use Rattle.std.proofs.Common.{ap, sym, subst, not, ◌∙◌, ◌∷◌, [], option_map, List, Bor, ℕ, ◌+◌, map, slice_index_or, take}
 use Rattle.std.proofs.lemmas.List.{map-append}
-use Rattle.world.specs.Seen.{event_seen}
+use Rattle.world.specs.Views.{event_seen}
 use Rattle.scripts.specs.Script.{AreEvents, ReadsLine}
 use Rattle.scripts.proofs.ScriptLemmas.{first_bad, texts, with_event}
 use Rattle.scripts.proofs.script.read_lines.Goals as goal

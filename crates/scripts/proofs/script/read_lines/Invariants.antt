@@ -1,5 +1,5 @@
 use Rattle.std.proofs.Common.{map, take}
-use Rattle.world.specs.Seen.{event_seen}
+use Rattle.world.specs.Views.{event_seen}
 use Rattle.scripts.specs.Script.{AreEvents}
 use Rattle.scripts.proofs.script.read_lines.Given as goal
 

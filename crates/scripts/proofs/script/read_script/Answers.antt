@@ -2,7 +2,7 @@ use Rattle.std.proofs.Common.{ap, subst, lit<, map, List, ℕ, Ok, IfOk, IsErrOf
 use Rattle.std.specs.Prelude.{⊤}
 use Rattle.std.proofs.lemmas.Iterator.Consumers.{map_from_collect}
 use Rattle.std.proofs.lemmas.Iterator.Splits.{YieldsList-from_str_split}
-use Rattle.world.specs.Seen.{event_seen}
+use Rattle.world.specs.Views.{event_seen}
 use Rattle.scripts.specs.Script.{AreEvents, IsFirstBad, lines_of}
 use Rattle.scripts.specs.declared.line_fault.LineFault.{LineFault}
 use Rattle.scripts.specs.declared.script.ScriptFault.TheVariants.{BadEvent}

@@ -17,22 +17,22 @@ returns-in_err-value_of c =
     let all = slice_split (λ b. eqb b 44) c.args.text.now in
     let chain = subst (λ s. YieldsList (split_steps FindsChar (λ a b. b ≡ a)) (λ x. x.now) s all) (sym c.into_iter-value-iterator.ensures.into_iter_gives)
     (YieldsList-from_str_split 44 c.args.text.now (lit< tt) c.split-value-items.ensures.text c.split-value-items.ensures.has_more c.split-value-items.ensures.pattern) in
-    let front = map string_bytes c.loop-value.values.items in
+    let prefix = map string_bytes c.loop-value.values.items in
     let seen = map (λ x. x.now) c.loop-value.yielded in
     let item = c.in-Some.value.now in
     let turn = YieldsList-turn chain c.loop-value.yielded c.loop-value.value-iterator c.loop-value.yielded_by c.next.result c.next.new.self c.in-Some.value c.in-Some.is c.next.ensures.steps in
     let so_far = YieldsList-so_far chain c.loop-value.yielded c.loop-value.value-iterator c.loop-value.yielded_by in
     let n = length c.loop-value.yielded in
     rw (p.1, p.2)
-    (ends c.in_err-value_of.field-0.0 value_of front item (drop (suc n) all) (values_of c.args.text.now) c.in_err-value_of.ensures
-    (item_read front seen all item (drop (suc n) all) c.loop-value.invariant.told (item_next n all seen item turn.0 turn.1 so_far)))
+    (ends c.in_err-value_of.field-0.0 value_of prefix item (drop (suc n) all) (values_of c.args.text.now) c.in_err-value_of.ensures
+    (item_read prefix seen all item (drop (suc n) all) c.loop-value.invariant.emitted (item_next n all seen item turn.0 turn.1 so_far)))
 
 pub returns : goal.returns
 returns c =
     let all = slice_split (λ b. eqb b 44) c.args.text.now in
     let chain = subst (λ s. YieldsList (split_steps FindsChar (λ a b. b ≡ a)) (λ x. x.now) s all) (sym c.into_iter-value-iterator.ensures.into_iter_gives)
     (YieldsList-from_str_split 44 c.args.text.now (lit< tt) c.split-value-items.ensures.text c.split-value-items.ensures.has_more c.split-value-items.ensures.pattern) in
-    let front = map string_bytes c.loop-value.values.items in
+    let prefix = map string_bytes c.loop-value.values.items in
     let seen = map (λ x. x.now) c.loop-value.yielded in
     let end = YieldsList-end chain c.loop-value.yielded c.loop-value.value-iterator c.loop-value.yielded_by c.next.result c.next.new.self c.in-None.is c.next.ensures.steps in
-    items_end front seen all c.loop-value.invariant.told end.0
+    items_end prefix seen all c.loop-value.invariant.emitted end.0

@@ -1,5 +1,5 @@
 use Rattle.std.proofs.Common.{subst}
-use Rattle.api_request.specs.Seen.{call_of}
+use Rattle.api_request.specs.Views.{call_of}
 use Rattle.server_program.specs.Creations.{IsCreation, IsRefused}
 use Rattle.server_program.proofs.Creating.{error_is}
 use Rattle.server_program.proofs.creations.create.Goals as goal

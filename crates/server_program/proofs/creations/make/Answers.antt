@@ -1,5 +1,5 @@
 use Rattle.std.proofs.Common.{◌≡◌, rules}
-use Rattle.api_request.specs.Seen.{call_of, plan_of}
+use Rattle.api_request.specs.Views.{call_of, plan_of}
 use Rattle.server_program.proofs.Creating.{creates_by}
 use Rattle.server_program.proofs.creations.make.Goals as goal
 

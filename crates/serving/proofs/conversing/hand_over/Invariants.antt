@@ -5,4 +5,4 @@ use Rattle.serving.proofs.conversing.hand_over.Given as goal
 
 abbrev pub invariant-pieces : goal.invariant-pieces
 invariant-pieces g l =
-    (heard : List ℕ) × Consumes (g.R.Read.remaining l.fn.reader) (g.R.Read.remaining l.reader) heard × HasTurns l.fn.id l.fn.hub heard [] l.hub
+    (received : List ℕ) × Consumes (g.R.Read.remaining l.fn.reader) (g.R.Read.remaining l.reader) received × HasTurns l.fn.id l.fn.hub received [] l.hub

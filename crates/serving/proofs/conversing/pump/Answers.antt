@@ -1,5 +1,5 @@
 use Rattle.std.proofs.Common.{sym}
-use Rattle.serving.proofs.Hearing.{ended_badly, ended_well}
+use Rattle.serving.proofs.Receiving.{ended_badly, ended_well}
 use Rattle.serving.proofs.conversing.pump.Goals as goal
 
 pub returns-then-is_err : goal.returns-then-is_err

@@ -1,7 +1,7 @@
 use Rattle.std.proofs.Common.{◌∙◌, ℕ, ap, sym}
 use Rattle.std.specs.Prelude.{◌==◌}
 use Rattle.wire.proofs.Pieces.{reads_none}
-use Rattle.serving.proofs.Hearing.{none_read}
+use Rattle.serving.proofs.Receiving.{none_read}
 use Rattle.serving.proofs.conversing.read_some.Goals as goal
 
 pub returns-in_err-piece : goal.returns-in_err-piece

@@ -1,5 +1,5 @@
 use Rattle.std.proofs.Common.{sym}
-use Rattle.serving.proofs.Hearing.{over_badly, over_well}
+use Rattle.serving.proofs.Receiving.{over_badly, over_well}
 use Rattle.serving.proofs.conversing.turn.Goals as goal
 
 pub returns-then-is_err : goal.returns-then-is_err

@@ -9,6 +9,6 @@ pub returns : goal.returns
 returns c = record {
   all = λ test o ns old. notices_counted test o ns old;
   waiting = λ test o c lead. waiting_counted test (how_many test o) o c refl lead;
-  since = λ test wanted before now told. notices_counted test (kept before.cache) told.since told.old ∙ ap (how_many test) told.replay;
+  since = λ test wanted before now emitted. notices_counted test (kept before.cache) emitted.since emitted.old ∙ ap (how_many test) emitted.replay;
   runs = λ test wanted server events. run_counted test wanted server events;
 }

@@ -12,12 +12,12 @@ use Rattle.pathmap.specs.Maps.{content}
 use Rattle.schema.specs.KeyNames.{names_in}
 use Rattle.schema.specs.Shape.{fields_in, shape}
 use Rattle.typed.specs.declared.fault.Cause.TheVariants.{NotAnObject, WrongType}
-use Rattle.typed.specs.Faults.{Gives, Read, Tells, and_then, fault_in, some_or}
+use Rattle.typed.specs.Faults.{Returns, Read, ReportsFault, and_then, fault_in, some_or}
 use Rattle.typed.specs.Keyed.{keyed_members}
 use Rattle.typed.specs.Reading.{beside_keys, content_of, content_of_field, content_of_item, items_at, keyed_item, keys_in, members_at, named_item}
 use Rattle.typed.specs.Steps.{item_view}
 use Rattle.typed.proofs.Ascending.{one_added, one_failed, one_free, one_null, read_begin, read_end}
-use Rattle.typed.proofs.Faults.{passed_on, tells-and_then}
+use Rattle.typed.proofs.Faults.{passed_on, reports-and_then}
 use Rattle.typed.proofs.Listed.{list_begin, list_end, next_added, next_failed, object_keyed, other_keyed, with_keys}
 use Rattle.typed.proofs.Shallow.{array_depth, item_depth, member_depth, object_depth}
 use Rattle.typed.proofs.Shapes.{content_keyed, content_struct, item_struct}
@@ -203,7 +203,7 @@ pub read_item-returns-in-Some : goal.read_item-returns-in-Some
 read_item-returns-in-Some t c =
     let names = names_in c.args.names.now in
     let inner : Members → Read Content = λ ms. content_of_item (shape c.args.inner.now) names ms in
-    subst (Gives item_view c.read_keyed.result) (object_keyed names inner (data_of (value_view c.args.item.now)) (members_data (members_view c.in-Some.members.now)) c.in-Some.ensures.value) c.read_keyed.ensures
+    subst (Returns item_view c.read_keyed.result) (object_keyed names inner (data_of (value_view c.args.item.now)) (members_data (members_view c.in-Some.members.now)) c.in-Some.ensures.value) c.read_keyed.ensures
 
 pub read_item-returns-in-None : goal.read_item-returns-in-None
 read_item-returns-in-None t c =
@@ -230,10 +230,10 @@ read_keyed-returns-in_err-below-in-Struct t c =
     let p = err_from_is_err_and c.from_residual.result c.from_residual.ensures.1 in
     let f = c.in_err-below-in-Struct.field-0.0 in
     passed_on item_view p.0 f c.from_residual.result (keyed_members names inner ms) p.1 p.2
-    (subst (λ r. Tells f (fault_in r))
+    (subst (λ r. ReportsFault f (fault_in r))
     (sym (with_keys names inner ms (sym c.has_keys.ensures ∙ c.if-not-has_keys.false)
     ∙ ap (λ r. and_then r (named_item (list_item_text (object (keys_in names ms))))) (item_struct c.args.inner.now c.in-Struct.fields c.in-Struct.field-1 c.deref.result.now names ms c.in-Struct.is c.deref.ensures.value)))
-    (tells-and_then f _ (named_item (list_item_text (object (keys_in names ms)))) c.in_err-below-in-Struct.ensures))
+    (reports-and_then f _ (named_item (list_item_text (object (keys_in names ms)))) c.in_err-below-in-Struct.ensures))
 
 pub read_keyed-returns-in_ok-below-in-Struct : goal.read_keyed-returns-in_ok-below-in-Struct
 read_keyed-returns-in_ok-below-in-Struct t c =
@@ -242,7 +242,7 @@ read_keyed-returns-in_ok-below-in-Struct t c =
     let inner : Members → Read Content = λ ms. content_of_item (shape c.args.inner.now) names ms in
     let made = content c.in_ok-below-in-Struct.below in
     let read : content_of_item (shape c.args.inner.now) names ms ≡ Ok made = item_struct c.args.inner.now c.in-Struct.fields c.in-Struct.field-1 c.deref.result.now names ms c.in-Struct.is c.deref.ensures.value ∙ c.in_ok-below-in-Struct.ensures in
-    subst (Gives item_view c.list_item.result)
+    subst (Returns item_view c.list_item.result)
     (sym (with_keys names inner ms (sym c.has_keys.ensures ∙ c.if-not-has_keys.false) ∙ ap (λ r. and_then r (named_item (list_item_text (object (keys_in names ms))))) read))
     c.list_item.ensures
 
@@ -254,7 +254,7 @@ read_borrowed-read_list-requires t c =
 
 pub read_borrowed-returns-in-Some-as_array : goal.read_borrowed-returns-in-Some-as_array
 read_borrowed-returns-in-Some-as_array t c =
-    subst (Gives content c.read_list.result)
+    subst (Returns content c.read_list.result)
     (sym (content_keyed c.args.schema.now c.in-List.inner c.in-List.kind c.in-Keyed.names c.deref-in-Some-as_array.result.now c.deref-in-Some-as_array-2.result.now (data_of (value_view c.args.value.now)) (items_data (items_view c.in-Some-as_array.items.now))
     c.in-List.is c.in-Keyed.is c.deref-in-Some-as_array.ensures c.deref-in-Some-as_array-2.ensures.value (ap (some_or WrongType) (sym c.in-Some-as_array.ensures.value))))
     c.read_list.ensures
@@ -273,7 +273,7 @@ read_borrowed-read_values-requires t c =
 
 pub read_borrowed-returns-in-Some : goal.read_borrowed-returns-in-Some
 read_borrowed-returns-in-Some t c =
-    subst (Gives content c.read_struct.result)
+    subst (Returns content c.read_struct.result)
     (sym (content_struct c.args.schema.now c.in-Struct.fields c.in-Struct.is_atomic c.deref.result.now (data_of (value_view c.args.value.now)) (members_data (members_view c.in-Some.members.now)) c.in-Struct.is c.if-is_atomic.false c.deref.ensures.value
     (ap (some_or NotAnObject) (sym c.in-Some.ensures.value))))
     c.read_struct.ensures

@@ -5,9 +5,9 @@ use Rattle.serde_json.specs.Data.{Data, object, array}
 use Rattle.serde_json.specs.View.{items_view, members_view, view}
 use Rattle.serde_json.proofs.Views.{view-Array, view-Object}
 use Rattle.schema.specs.Shape.{fields_in, kind_of, shape}
-use Rattle.typed.specs.Faults.{Gives, Read, Tells, fault_in, below}
+use Rattle.typed.specs.Faults.{Returns, Read, ReportsFault, fault_in, below}
 use Rattle.typed.specs.Reading.{plain_item, plain_items, plain_members, plain_of, plain_of_field}
-use Rattle.typed.proofs.Faults.{passed_on, tells-within}
+use Rattle.typed.proofs.Faults.{passed_on, reports-within}
 use Rattle.typed.proofs.Plains.{ended, items_ended, items_failed, items_taken, skip_null, take_in}
 use Rattle.typed.proofs.Shapes.{plain_struct, plain_map, plain_list}
 use Rattle.typed.proofs.plain.+plain.Goals as goal
@@ -74,7 +74,7 @@ plain_one-returns-in_err-check_item t c =
     passed_on view p.0 c.in_err-check_item.field-0.0 c.from_residual.result _ p.1 p.2 (c.in_err-check_item.ensures.err (λ e. plain_of (shape c.args.inner.now) e))
 
 pub plain_one-returns : goal.plain_one-returns
-plain_one-returns t c = subst (Gives view c.read_plain.result) (sym (c.in_ok-check_item.ensures.ok (λ e. plain_of (shape c.args.inner.now) e))) c.read_plain.ensures
+plain_one-returns t c = subst (Returns view c.read_plain.result) (sym (c.in_ok-check_item.ensures.ok (λ e. plain_of (shape c.args.inner.now) e))) c.read_plain.ensures
 
 pub read_plain-returns-in_ok-plain_fields-in-Struct :
     goal.read_plain-returns-in_ok-plain_fields-in-Struct
@@ -88,8 +88,8 @@ read_plain-returns-in_err-plain_fields-in-Struct t c =
     let p = err_from_is_err_and c.from_residual-in_err-plain_fields-in-Struct.result c.from_residual-in_err-plain_fields-in-Struct.ensures.1 in
     let f = c.in_err-plain_fields-in-Struct.field-0.0 in
     passed_on view p.0 f c.from_residual-in_err-plain_fields-in-Struct.result _ p.1 p.2
-    (subst (λ r. Tells f (fault_in r)) (sym (plain_struct c.args.schema.now c.in-Struct.fields c.in-Struct.field-1 c.deref.result.now (view c.args.value.now) (members_view c.in_ok-members-in-Struct.members.now.entries) c.in-Struct.is c.deref.ensures.value c.in_ok-members-in-Struct.ensures))
-    (tells-within f object _ c.in_err-plain_fields-in-Struct.ensures))
+    (subst (λ r. ReportsFault f (fault_in r)) (sym (plain_struct c.args.schema.now c.in-Struct.fields c.in-Struct.field-1 c.deref.result.now (view c.args.value.now) (members_view c.in_ok-members-in-Struct.members.now.entries) c.in-Struct.is c.deref.ensures.value c.in_ok-members-in-Struct.ensures))
+    (reports-within f object _ c.in_err-plain_fields-in-Struct.ensures))
 
 pub read_plain-returns-in_ok-plain_values-in-MapOf :
     goal.read_plain-returns-in_ok-plain_values-in-MapOf
@@ -103,9 +103,9 @@ read_plain-returns-in_err-plain_values-in-MapOf t c =
     let p = err_from_is_err_and c.from_residual-in_err-plain_values-in-MapOf.result c.from_residual-in_err-plain_values-in-MapOf.ensures.1 in
     let f = c.in_err-plain_values-in-MapOf.field-0.0 in
     passed_on view p.0 f c.from_residual-in_err-plain_values-in-MapOf.result _ p.1 p.2
-    (subst (λ r. Tells f (fault_in r))
+    (subst (λ r. ReportsFault f (fault_in r))
     (sym (plain_map c.args.schema.now c.in-MapOf.inner c.in-MapOf.field-1 c.deref-in-MapOf.result.now (view c.args.value.now) (members_view c.in_ok-members-in-MapOf.members.now.entries) c.in-MapOf.is c.deref-in-MapOf.ensures c.in_ok-members-in-MapOf.ensures))
-    (tells-within f object _ c.in_err-plain_values-in-MapOf.ensures))
+    (reports-within f object _ c.in_err-plain_values-in-MapOf.ensures))
 
 pub read_plain-returns-in_ok-plain_list-in-List : goal.read_plain-returns-in_ok-plain_list-in-List
 read_plain-returns-in_ok-plain_list-in-List t c =
@@ -117,5 +117,5 @@ read_plain-returns-in_err-plain_list-in-List t c =
     let p = err_from_is_err_and c.from_residual-in_err-plain_list-in-List.result c.from_residual-in_err-plain_list-in-List.ensures.1 in
     let f = c.in_err-plain_list-in-List.field-0.0 in
     passed_on view p.0 f c.from_residual-in_err-plain_list-in-List.result _ p.1 p.2
-    (subst (λ r. Tells f (fault_in r)) (sym (plain_list c.args.schema.now c.in-List.inner c.in-List.kind c.deref-in-List.result.now c.deref-in-List-2.result.now (view c.args.value.now) c.in_ok-items-in-List.items.now.items c.in-List.is c.deref-in-List.ensures c.deref-in-List-2.ensures.value c.in_ok-items-in-List.ensures))
-    (tells-within f array _ c.in_err-plain_list-in-List.ensures))
+    (subst (λ r. ReportsFault f (fault_in r)) (sym (plain_list c.args.schema.now c.in-List.inner c.in-List.kind c.deref-in-List.result.now c.deref-in-List-2.result.now (view c.args.value.now) c.in_ok-items-in-List.items.now.items c.in-List.is c.deref-in-List.ensures c.deref-in-List-2.ensures.value c.in_ok-items-in-List.ensures))
+    (reports-within f array _ c.in_err-plain_list-in-List.ensures))

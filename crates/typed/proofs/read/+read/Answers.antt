@@ -8,10 +8,10 @@ use Rattle.pathmap.specs.Contents.{Content}
 use Rattle.pathmap.specs.Maps.{content}
 use Rattle.schema.specs.KeyNames.{names_in}
 use Rattle.schema.specs.Shape.{fields_in, shape}
-use Rattle.typed.specs.Faults.{Gives, Read, Tells, and_then, fault_in}
+use Rattle.typed.specs.Faults.{Returns, Read, ReportsFault, and_then, fault_in}
 use Rattle.typed.specs.Reading.{beside_keys, content_of, content_of_field, content_of_item, items_at, keyed_item, keys_in, members_at, named_item}
 use Rattle.typed.specs.Steps.{item_view}
-use Rattle.typed.proofs.Faults.{passed_on, tells-and_then}
+use Rattle.typed.proofs.Faults.{passed_on, reports-and_then}
 use Rattle.typed.proofs.Listed.{item_added, item_failed, items_begin, items_end, keyed_is}
 use Rattle.typed.proofs.Members.{member_added, member_new, member_null, members_begin, members_end}
 use Rattle.typed.proofs.Plains.{Entry}
@@ -97,10 +97,10 @@ read_item-returns-in_err-below-in-Struct t c =
     let p = err_from_is_err_and c.from_residual-in_err-below-in-Struct.result c.from_residual-in_err-below-in-Struct.ensures.1 in
     let f = c.in_err-below-in-Struct.field-0.0 in
     passed_on item_view p.0 f c.from_residual-in_err-below-in-Struct.result _ p.1 p.2
-    (subst (λ r. Tells f (fault_in r))
+    (subst (λ r. ReportsFault f (fault_in r))
     (sym (keyed_is names inner (view c.args.item.now) ms c.in_ok-members.ensures
     ∙ ap (λ r. and_then r (named_item (list_item_text (object (keys_in names ms))))) (item_struct c.args.inner.now c.in-Struct.fields c.in-Struct.field-1 c.deref.result.now names ms c.in-Struct.is c.deref.ensures.value)))
-    (tells-and_then f _ (named_item (list_item_text (object (keys_in names ms)))) c.in_err-below-in-Struct.ensures))
+    (reports-and_then f _ (named_item (list_item_text (object (keys_in names ms)))) c.in_err-below-in-Struct.ensures))
 
 pub read_item-returns-in_ok-below-in-Struct : goal.read_item-returns-in_ok-below-in-Struct
 read_item-returns-in_ok-below-in-Struct t c =
@@ -109,19 +109,19 @@ read_item-returns-in_ok-below-in-Struct t c =
     let inner : Members → Read Content = λ ms. content_of_item (shape c.args.inner.now) names ms in
     let made = content c.in_ok-below-in-Struct.below in
     let read : content_of_item (shape c.args.inner.now) names ms ≡ Ok made = item_struct c.args.inner.now c.in-Struct.fields c.in-Struct.field-1 c.deref.result.now names ms c.in-Struct.is c.deref.ensures.value ∙ c.in_ok-below-in-Struct.ensures in
-    subst (Gives item_view c.list_item.result)
+    subst (Returns item_view c.list_item.result)
     (sym (keyed_is names inner (view c.args.item.now) ms c.in_ok-members.ensures ∙ ap (λ r. and_then r (named_item (list_item_text (object (keys_in names ms))))) read))
     c.list_item.ensures
 
 pub read_map-returns-in_ok-members-in-Struct : goal.read_map-returns-in_ok-members-in-Struct
 read_map-returns-in_ok-members-in-Struct t c =
-    subst (Gives content c.read_struct.result)
+    subst (Returns content c.read_struct.result)
     (sym (content_struct c.args.schema.now c.in-Struct.fields c.in-Struct.is_atomic c.deref.result.now (view c.args.value.now) (members_view c.in_ok-members-in-Struct.members.now.entries) c.in-Struct.is c.if-is_atomic.false c.deref.ensures.value c.in_ok-members-in-Struct.ensures))
     c.read_struct.ensures
 
 pub read_map-returns-in_ok-items-in-Keyed : goal.read_map-returns-in_ok-items-in-Keyed
 read_map-returns-in_ok-items-in-Keyed t c =
-    subst (Gives content c.read_list.result)
+    subst (Returns content c.read_list.result)
     (sym (content_list c.args.schema.now c.in-List.inner c.in-List.kind c.in-Keyed.names c.deref-in-Keyed.result.now c.deref-in-Keyed-2.result.now c.deref-in-Keyed-3.result.now (view c.args.value.now) c.in_ok-items-in-Keyed.items.now.items
     c.in-List.is c.in-Keyed.is c.deref-in-Keyed.ensures c.deref-in-Keyed-2.ensures.value c.deref-in-Keyed-3.ensures.value c.in_ok-items-in-Keyed.ensures))
     c.read_list.ensures

@@ -3,7 +3,7 @@ use Rattle.std.specs.Prelude.{is_ok}
 use Rattle.std.proofs.lemmas.Result.{IfErr-weaker}
 use Rattle.api_types.specs.Served.{types_view}
 use Rattle.history.specs.Read.{write_of}
-use Rattle.verbs.proofs.Served.{lawful_seen, none_told, refused_seen, writes_seen}
+use Rattle.verbs.proofs.Served.{lawful_seen, none_reported, refused_seen, writes_seen}
 use Rattle.verbs.proofs.retyping.writes_under.Goals as goal
 
 pub returns-clause-lawful : goal.returns-clause-lawful
@@ -21,5 +21,5 @@ returns-clause-refused c = λ m is store.
     refused_seen _ _ _ _ (ap types_view c.in-Ok.ensures.old) (ap types_view c.in-Ok.ensures.new) m is c.args.store.now store c.current-current.result c.current-current.ensures.current
     (λ v. map write_of v.items) c.writes.result (sym c.change_to.ensures.lawful ∙ ap is_ok c.in-Ok.is) c.writes.ensures.refused
 
-pub returns-clause-told : goal.returns-clause-told
-returns-clause-told c = IfErr-weaker c.writes.result _ _ (λ e many. none_told _ e many) c.writes.ensures.refused
+pub returns-clause-reported : goal.returns-clause-reported
+returns-clause-reported c = IfErr-weaker c.writes.result _ _ (λ e many. none_reported _ e many) c.writes.ensures.refused

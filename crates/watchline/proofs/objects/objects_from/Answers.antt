@@ -4,7 +4,7 @@ use Rattle.history.specs.Seen.{limited}
 use Rattle.history.specs.View.{state_in}
 use Rattle.lists.specs.Rows.{matching}
 use Rattle.lists.specs.Views.{page_seen, start_of}
-use Rattle.watchline.specs.Views.{left_at, objects_at}
+use Rattle.watchline.specs.Views.{initial_left_of, objects_at}
 use Rattle.watchline.specs.Watches.{left_behind}
 use Rattle.watchline.proofs.Coming.{left_same, min_high, min_low, page_at, past_some}
 use Rattle.watchline.proofs.objects.objects_from.Goals as goal
@@ -43,4 +43,4 @@ returns-clause-left c =
     (c.in_ok-page.ensures.page
     ∙ ap₂ (λ kind namespace. limited (Some c.args.max) (matching scope.selector (listed kind namespace (start_of start) (state_in v c.min-revision.result)))) c.collection.ensures.kind c.collection.ensures.namespace)
     )
-    ∙ sym (past_some c.args.max (objects_at v scope c.args.position start) (left_at (Some start)) c.if-max-eq0.false)
+    ∙ sym (past_some c.args.max (objects_at v scope c.args.position start) (initial_left_of (Some start)) c.if-max-eq0.false)

@@ -2,7 +2,7 @@ use Rattle.std.proofs.Common.{◌∙◌, ap, ap₂}
 use Rattle.std.specs.Option.{option_map}
 use Rattle.history.specs.Read.{key_of}
 use Rattle.history.specs.Seen.{seen_by}
-use Rattle.watchline.specs.Batches.{if_labelled}
+use Rattle.watchline.specs.BatchViews.{if_labelled}
 use Rattle.watchline.proofs.seen.seen_of.Goals as goal
 
 pub returns-clause-seen : goal.returns-clause-seen

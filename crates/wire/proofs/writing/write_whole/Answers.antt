@@ -1,5 +1,5 @@
-use Rattle.wire.proofs.Pieces.{front_of}
+use Rattle.wire.proofs.Pieces.{prefix_of}
 use Rattle.wire.proofs.writing.write_whole.Goals as goal
 
-pub returns-clause-front : goal.returns-clause-front
-returns-clause-front g c = front_of _ _ c.args.bytes.now _ c.write_front.ensures.front
+pub returns-clause-prefix : goal.returns-clause-prefix
+returns-clause-prefix g c = prefix_of _ _ c.args.bytes.now _ c.write_prefix.ensures.prefix

@@ -15,6 +15,6 @@ loop-key-preserved c =
 
 pub returns : goal.returns
 returns c =
-    let placed =
+    let under_key =
     sym (append-nil (map place_of c.loop-key.all.items)) ∙ ap (λ xs. map place_of c.loop-key.all.items ++ map place_of xs) (sym c.in-None.ensures.steps.0) ∙ c.loop-key.invariant in
-    record { places = placed; ascending = subst (IsStrictlySortedBy place_cmp) (sym placed) (places_ascend c.args.keys.now.keys c.into_iter-key-iterator.ensures.into_iter_gives.4) }
+    record { places = under_key; ascending = subst (IsStrictlySortedBy place_cmp) (sym under_key) (places_ascend c.args.keys.now.keys c.into_iter-key-iterator.ensures.into_iter_gives.4) }

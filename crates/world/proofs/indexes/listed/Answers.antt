@@ -1,11 +1,11 @@
-use Rattle.indexer.specs.Indexer.{held_of, is_under, names_of}
+use Rattle.indexer.specs.Indexer.{indexed_objects_of, is_under, names_of}
 use Rattle.indexer.specs.Objects.{place_of}
 use Rattle.world.proofs.Shots.{copied_next, keys_next, listed_next}
 use Rattle.world.proofs.indexes.listed.Goals as goal
 
 pub loop-text-preserved : goal.loop-text-preserved
 loop-text-preserved g c =
-    let held = held_of c.args.indexer.now in
+    let held = indexed_objects_of c.args.indexer.now in
     let names = names_of c.args.indexer.now in
     let name = c.args.name.now in
     let pushed = c.in_ok-push.ensures.items in

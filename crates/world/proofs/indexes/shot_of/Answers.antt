@@ -2,14 +2,14 @@ use Rattle.std.proofs.Common.{◌≡◌, ◌∙◌, ◌&&◌, ℕ, Bor, List, tr
 use Rattle.std.specs.Cmp.Lexicographic.{slice_cmp}
 use Rattle.std.specs.List.Sorted.{IsStrictlySortedBy}
 use Rattle.std.specs.Ordering.{nat_cmp}
-use Rattle.indexer.specs.Indexer.{held_of, is_under, names_of}
+use Rattle.indexer.specs.Indexer.{indexed_objects_of, is_under, names_of}
 use Rattle.indexer.specs.Objects.{is_among, place_of}
 use Rattle.world.proofs.Shots.{all_filled, listed_all}
 use Rattle.world.proofs.indexes.shot_of.Goals as goal
 
 pub returns-clause-shows : goal.returns-clause-shows
 returns-clause-shows g c =
-    let held = held_of c.args.indexer.now in
+    let held = indexed_objects_of c.args.indexer.now in
     let names = names_of c.args.indexer.now in
     let name = c.args.name.now in
     let texts = map (λ t. t.now) c.in_ok-texts.texts.items in

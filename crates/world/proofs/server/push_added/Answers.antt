@@ -1,6 +1,6 @@
 use Rattle.std.proofs.Common.{◌∙◌, ◌∷◌, ◌++◌, ℕ, List, [], ap, map, sym}
 use Rattle.std.proofs.lemmas.List.{map-append}
-use Rattle.world.specs.Seen.{reply_seen}
+use Rattle.world.specs.Views.{reply_seen}
 use Rattle.world.proofs.Marking.{none_added, one_added}
 use Rattle.world.proofs.server.push_added.Goals as goal
 

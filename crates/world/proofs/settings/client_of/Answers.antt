@@ -3,7 +3,7 @@ use Rattle.std.specs.Prelude.{is_ok}
 use Rattle.api_types.specs.Served.{types_view}
 use Rattle.selector.specs.Grammar.{parse_selector}
 use Rattle.world_laws.specs.Tasks.{or_fault}
-use Rattle.world.specs.Seen.{settings_seen}
+use Rattle.world.specs.Views.{settings_seen}
 use Rattle.world.proofs.Asking.{namespace_fault}
 use Rattle.world.proofs.settings.client_of.Goals as goal
 

@@ -1,5 +1,5 @@
 use Rattle.std.proofs.Common.{◌∙◌, None, ap, cond, subst}
-use Rattle.world.specs.Seen.{event_seen}
+use Rattle.world.specs.Views.{event_seen}
 use Rattle.world.specs.Stepping.{Refuses, opens_own}
 use Rattle.world.proofs.Refusals.{opened_refused, opened_taken}
 use Rattle.world.proofs.stepping.opened_by.Goals as goal

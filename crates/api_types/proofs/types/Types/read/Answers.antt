@@ -1,6 +1,6 @@
 use Rattle.std.proofs.Common.{◌∙◌, ap, map, sym}
 use Rattle.serde_json.specs.View.{items_view}
-use Rattle.api_types.specs.ServedView.{served}
+use Rattle.api_types.specs.ServedViews.{served}
 use Rattle.api_types.specs.TypesFile.{names_differ}
 use Rattle.api_types.proofs.ObjectTypes.{tests}
 use Rattle.api_types.proofs.Naming.{named}

@@ -1,6 +1,6 @@
 use Rattle.std.proofs.Common.{◌∷◌, sym, ap, ◌∙◌}
 use Rattle.fieldpath.specs.Elements.{element_text, name_text, key_text, scalar_text}
-use Rattle.fieldpath.specs.Elems.{element}
+use Rattle.fieldpath.specs.ElementViews.{element}
 use Rattle.fieldpath.proofs.Texts.{prefixed_as}
 use Rattle.fieldpath.proofs.elem.Elem.text.Goals as goal
 

@@ -1,6 +1,6 @@
 use Rattle.std.proofs.Common.{ap, ◌∙◌}
 use Rattle.fieldpath.specs.Elements.{read_element}
-use Rattle.fieldpath.specs.Elems.{element}
+use Rattle.fieldpath.specs.ElementViews.{element}
 use Rattle.fieldpath.proofs.elem_text.ElemText.checked.Goals as goal
 
 pub invariant_of-result : goal.invariant_of-result

@@ -1,6 +1,6 @@
 use Rattle.std.proofs.Common.{flat_map, map, string_bytes, ap, ◌∙◌}
 use Rattle.fieldpath.specs.Elements.{shown, shown_element}
-use Rattle.fieldpath.specs.Elems.{element}
+use Rattle.fieldpath.specs.ElementViews.{element}
 use Rattle.fieldpath.proofs.Shown.{shown-elems}
 use Rattle.fieldpath.proofs.Texts.{prefixed_as}
 use Rattle.fieldpath.proofs.path.Path.shown.Goals as goal

@@ -1,7 +1,7 @@
 use Rattle.std.proofs.Common.{◌≡◌, Option, Some, None, is_some, refl, ap, sym, ◌∙◌}
 use Rattle.std.specs.Option.{option_map}
 use Rattle.std.specs.FinSet as set
-use Rattle.pathmap.specs.Maps.{content, standing}
+use Rattle.pathmap.specs.Maps.{content, leaf_value}
 use Rattle.pathmap.proofs.Sets.{contains-dom}
 use Rattle.fieldset.proofs.fieldset.FieldSet.contains.Goals as goal
 
@@ -11,4 +11,4 @@ some_map f (Some x) = refl
 
 pub returns : goal.returns
 returns c =
-    c.is_some.ensures ∙ some_map (λ h. standing h.now) c.get.result ∙ ap is_some c.get.ensures ∙ sym (contains-dom (content c.self.inside.map) c.args.path.now) ∙ ap (λ s. set.contains s c.args.path.now) c.self.view_is
+    c.is_some.ensures ∙ some_map (λ h. leaf_value h.now) c.get.result ∙ ap is_some c.get.ensures ∙ sym (contains-dom (content c.self.inside.map) c.args.path.now) ∙ ap (λ s. set.contains s c.args.path.now) c.self.view_is

@@ -1,7 +1,7 @@
 use Rattle.std.proofs.Common.{true, false, Some, refl, ap, ◌∙◌}
 use Rattle.std.specs.Prelude.{is_some}
 use Rattle.std.specs.Ordering.{nat_cmp, eq_by_cmp}
-use Rattle.httpedge.specs.Ids.{is_in}
+use Rattle.httpedge.specs.IdViews.{is_in}
 use Rattle.httpedge.proofs.Forgetting.{forgets_none, forgets_one, no_id_there, with_id, without_id}
 use Rattle.httpedge.proofs.connections.Connections.forget.Goals as goal
 

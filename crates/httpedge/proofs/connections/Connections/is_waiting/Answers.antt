@@ -1,7 +1,7 @@
 use Rattle.std.proofs.Common.{false, Some, None, sym, ap, ◌∙◌}
 use Rattle.std.specs.Prelude.{option_map, unwrap_or}
-use Rattle.httpedge.specs.Held.{is_waiting_in}
-use Rattle.httpedge.specs.Ids.{is_in}
+use Rattle.httpedge.specs.ConnectionViews.{is_waiting_in}
+use Rattle.httpedge.specs.IdViews.{is_in}
 use Rattle.httpedge.proofs.Forgetting.{waiting_over, found_held}
 use Rattle.httpedge.proofs.connections.Connections.is_waiting.Goals as goal
 

@@ -4,7 +4,7 @@ use Rattle.std.specs.BTreeSet.{contains}
 use Rattle.std.specs.List.{list_any}
 use Rattle.std.specs.Map.{lookup}
 use Rattle.std.specs.Ordering.{nat_cmp, eq_by_cmp}
-use Rattle.httpedge.specs.Held.{is_open_in}
+use Rattle.httpedge.specs.ConnectionViews.{is_open_in}
 use Rattle.httpedge.proofs.Forgetting.{in_and_out, no_id_there, opens_one, same_opened}
 use Rattle.httpedge.proofs.Results.{on_err}
 use Rattle.httpedge.proofs.connections.Connections.open.Goals as goal
@@ -13,9 +13,9 @@ pub returns-then-not-is_open-clause-ok : goal.returns-then-not-is_open-clause-ok
 returns-then-not-is_open-clause-ok c = λ fresh.
     let self = c.args.self.now in
     let id = c.args.id in
-    let closed : is_open_in c.args.connection ≡ false = search rules in
+    let had_ended_if_over : is_open_in c.args.connection ≡ false = search rules in
     opens_one id c.args.connection self _ fresh c.in_ok-insert.ensures.updates.0
-    (λ q. no_id_there (contains nat_cmp self.open_ids) id q fresh.1 ∙ ap (λ (x : Bool). cond (eq_by_cmp nat_cmp id q) x (contains nat_cmp self.open_ids q)) (sym closed)) refl refl refl
+    (λ q. no_id_there (contains nat_cmp self.open_ids) id q fresh.1 ∙ ap (λ (x : Bool). cond (eq_by_cmp nat_cmp id q) x (contains nat_cmp self.open_ids q)) (sym had_ended_if_over)) refl refl refl
 
 pub returns-in_err-insert-clause-err : goal.returns-in_err-insert-clause-err
 returns-in_err-insert-clause-err c = λ fresh.

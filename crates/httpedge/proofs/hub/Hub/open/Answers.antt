@@ -1,5 +1,5 @@
 use Rattle.std.proofs.Common.{rules, ◌≡◌, true, false, refl}
-use Rattle.httpedge.specs.Held.{is_above}
+use Rattle.httpedge.specs.ConnectionViews.{is_above}
 use Rattle.httpedge.proofs.Representing.{opens_refused, opens_unrefused}
 use Rattle.httpedge.proofs.hub.Hub.open.Goals as goal
 

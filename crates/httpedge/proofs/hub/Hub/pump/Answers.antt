@@ -1,6 +1,6 @@
 use Rattle.std.proofs.Common.{rules, ◌≡◌, true, false, refl}
 use Rattle.std.specs.Prelude.{◌==◌, is_some}
-use Rattle.httpedge.specs.Held.{found}
+use Rattle.httpedge.specs.ConnectionViews.{found}
 use Rattle.httpedge.proofs.Representing.{no_lines_in, none_pumped, unknown_pumped}
 use Rattle.httpedge.proofs.hub.Hub.pump.Goals as goal
 

@@ -1,7 +1,7 @@
 use Rattle.std.specs.Prelude.{⊤}
 use Rattle.serde_json.specs.View as value
 use Rattle.httpedge.proofs.Representing.{same_shared}
-use Rattle.httpedge.proofs.Retyped.{file_told, retypes_not, retypes_well}
+use Rattle.httpedge.proofs.Retyped.{file_reported, retypes_not, retypes_well}
 use Rattle.httpedge.proofs.hub.Hub.retype.Goals as goal
 
 pub returns-in-Ok-clause-handles : goal.returns-in-Ok-clause-handles
@@ -12,5 +12,5 @@ returns-in-Err-clause-handles c =
     retypes_not ⊤ c.args.self.now _ _ c.in-Err.fault c.from.result c.from.ensures (same_shared c.args.self.now c.retype.new.self c.in-Err.ensures.unchanged)
     (λ s is. c.in-Err.ensures.refused s.types s.machine is.0.machine)
 
-pub returns-in-Err-clause-told : goal.returns-in-Err-clause-told
-returns-in-Err-clause-told c = file_told (value.view c.args.file.now) c.in-Err.fault c.from.result c.from.ensures c.in-Err.ensures.told
+pub returns-in-Err-clause-reported : goal.returns-in-Err-clause-reported
+returns-in-Err-clause-reported c = file_reported (value.view c.args.file.now) c.in-Err.fault c.from.result c.from.ensures c.in-Err.ensures.reported

@@ -1,5 +1,5 @@
 use Rattle.std.proofs.Common.{sym, subst, ◌∙◌}
-use Rattle.httpedge.specs.Ids.{IsAfter}
+use Rattle.httpedge.specs.IdViews.{IsAfter}
 use Rattle.httpedge.proofs.Ranging.{adds_alone, adds_joined, already, covers_is}
 use Rattle.httpedge.proofs.ids.Ids.insert.Goals as goal
 

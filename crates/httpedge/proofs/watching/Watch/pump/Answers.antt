@@ -1,6 +1,6 @@
 use Rattle.std.proofs.Common.{refl}
 use Rattle.std.proofs.lemmas.Result.{IfOk-weaker}
-use Rattle.httpedge.specs.Held.{left, watch_of}
+use Rattle.httpedge.specs.ConnectionViews.{left, watch_of}
 use Rattle.httpedge.proofs.Turning.{pump_turns}
 use Rattle.httpedge.proofs.watching.Watch.pump.Goals as goal
 

@@ -4,7 +4,7 @@ use Rattle.std.specs.List.{position}
 use Rattle.std.specs.Str.{bytes_eq}
 use Rattle.indexer.specs.Objects.{under_number}
 use Rattle.indexer.specs.Postings.{Postings}
-use Rattle.indexer.proofs.Held.{under_is}
+use Rattle.indexer.proofs.IndexedObjects.{under_is}
 use Rattle.indexer.proofs.indexer.Indexer.by_index.Goals as goal
 
 pub returns-clause-members : goal.returns-clause-members

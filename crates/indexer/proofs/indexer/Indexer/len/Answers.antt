@@ -1,5 +1,5 @@
 use Rattle.std.proofs.Common.{◌∙◌}
-use Rattle.indexer.proofs.Held.{held_len}
+use Rattle.indexer.proofs.IndexedObjects.{held_len}
 use Rattle.indexer.proofs.indexer.Indexer.len.Goals as goal
 
 pub returns : goal.returns

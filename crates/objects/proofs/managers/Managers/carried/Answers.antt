@@ -7,10 +7,10 @@ use Rattle.objects.proofs.managers.Managers.carried.Goals as goal
 
 pub invariant_of-result : goal.invariant_of-result
 invariant_of-result c =
-    are_carried c.args.stands.now c.args.new.now c.args.self.now (pairs c.in_ok-entries.entries.items)
-    (c.in_ok-entries.ensures ∙ ap (carried_entries c.args.stands.now c.args.new.now) (ap pairs c.deref.ensures.value ∙ sym c.self.invariant.0 ∙ ap fin.entries c.self.view_is))
+    are_carried c.args.present.now c.args.new.now c.args.self.now (pairs c.in_ok-entries.entries.items)
+    (c.in_ok-entries.ensures ∙ ap (carried_entries c.args.present.now c.args.new.now) (ap pairs c.deref.ensures.value ∙ sym c.self.invariant.0 ∙ ap fin.entries c.self.view_is))
 
 pub returns : goal.returns
 returns c =
-    is_carried c.args.stands.now c.args.new.now c.args.self.now (pairs c.in_ok-entries.entries.items)
-    (c.in_ok-entries.ensures ∙ ap (carried_entries c.args.stands.now c.args.new.now) (ap pairs c.deref.ensures.value ∙ sym c.self.invariant.0 ∙ ap fin.entries c.self.view_is))
+    is_carried c.args.present.now c.args.new.now c.args.self.now (pairs c.in_ok-entries.entries.items)
+    (c.in_ok-entries.ensures ∙ ap (carried_entries c.args.present.now c.args.new.now) (ap pairs c.deref.ensures.value ∙ sym c.self.invariant.0 ∙ ap fin.entries c.self.view_is))

@@ -4,7 +4,7 @@ use Rattle.json.specs.Value.{value_view}
 use Rattle.json_texts.specs.InOrder.{data_of}
 use Rattle.schema.specs.Shape.{shape}
 use Rattle.objects.specs.Views.{identity_of, state_of}
-use Rattle.objects.proofs.Answered.{handed, unread, no_parts, not_standing, not_printed, read_back}
+use Rattle.objects.proofs.Answered.{handed, unread, no_parts, not_leaf_value, not_printed, read_back}
 use Rattle.objects.proofs.owned.Owned.from_object.Goals as goal
 
 pub returns-in_err-value : goal.returns-in_err-value
@@ -26,7 +26,7 @@ returns-in_err-owned c = λ shaped.
 
 pub returns-then-not-owned_stand : goal.returns-then-not-owned_stand
 returns-then-not-owned_stand c = λ shaped.
-    not_standing (shape c.args.schema.now) (identity_of c.args.of) c.args.text.now shaped (data_of (value_view c.in_ok-value.value)) c.in_ok-value.ensures.value (state_of c.in_ok-owned.owned) c.in_ok-owned.version c.in_ok-owned.ensures
+    not_leaf_value (shape c.args.schema.now) (identity_of c.args.of) c.args.text.now shaped (data_of (value_view c.in_ok-value.value)) c.in_ok-value.ensures.value (state_of c.in_ok-owned.owned) c.in_ok-owned.version c.in_ok-owned.ensures
     (λ stand. true≢false (sym (c.owned_stand.ensures.1 stand) ∙ c.if-not-owned_stand.true))
 
 pub returns-then-are_same : goal.returns-then-are_same

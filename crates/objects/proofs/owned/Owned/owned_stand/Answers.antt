@@ -2,7 +2,7 @@ use Rattle.std.proofs.Common.{◌∙◌, ap}
 use Rattle.pathmap.specs.Contents.{dom}
 use Rattle.objects.specs.Parts.{all_within}
 use Rattle.objects.specs.Views.{state_of}
-use Rattle.objects.proofs.Standing.{stand_decided}
+use Rattle.objects.proofs.LeafValue.{stand_decided}
 use Rattle.objects.proofs.owned.Owned.owned_stand.Goals as goal
 
 pub returns : goal.returns

@@ -7,5 +7,5 @@ turns-init g c = any_none _
 pub turns-preserved : goal.turns-preserved
 turns-preserved g c = any_then _ _ _ c.turns.invariant c.turn.ensures
 
-pub returns-in_err-turn-clause-leads : goal.returns-in_err-turn-clause-leads
-returns-in_err-turn-clause-leads g c = any_then _ _ _ c.turns.invariant c.turn.ensures
+pub returns-in_err-turn-clause-reaches : goal.returns-in_err-turn-clause-reaches
+returns-in_err-turn-clause-reaches g c = any_then _ _ _ c.turns.invariant c.turn.ensures

@@ -8,8 +8,8 @@ use Rattle.recorder.specs.Recorded.{IsKept}
 use Rattle.recorder.proofs.recorder.Recorder.new.Goals as goal
 
 pub returns : goal.returns
-returns c = λ types m stands. (
-  c.new.ensures types m stands,
+returns c = λ types m represents. (
+  c.new.ensures types m represents,
   λ q.
       let none : option_map (λ v. v.items) (get nat_cmp c.new-2.result q) ≡ None = ap (λ es. option_map (λ v. v.items) (lookup (is_at (nat_cmp q)) es)) c.new-2.ensures.empty in
       subst (λ (o : Option (List ℕ)). IsKept o (fin.get (start types m).connections q)) (sym none) (c.all_is_out.ensures.start types m q),

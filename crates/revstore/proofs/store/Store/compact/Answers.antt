@@ -3,10 +3,10 @@ use Rattle.history.specs.History.{History}
 use Rattle.history.specs.Kept.{IsPruned}
 use Rattle.history.specs.View.{compacted_in, view}
 use Rattle.history.proofs.Seen.{pruned_stays, view_prunes}
-use Rattle.revstore.specs.Held.{AreIn}
-use Rattle.revstore.specs.Recent.{AreLatest}
+use Rattle.revstore.specs.CachedObject.{AreIn}
+use Rattle.revstore.specs.ChangeWindow.{AreLatest}
 use Rattle.revstore.proofs.Latest.{pruned_at}
-use Rattle.revstore.proofs.Slots.{still_in}
+use Rattle.revstore.proofs.ObjectCache.{still_in}
 use Rattle.revstore.proofs.store.Store.compact.Goals as goal
 
 pub invariant_of-self-2 : goal.invariant_of-self-2
@@ -17,8 +17,8 @@ invariant_of-self-2 c =
     let gone = sym (c.in_ok-prune.ensures.ok ∙ pruned_at h to (omega (arith, c.if-revision-marks.false, c.marks-marks.ensures.compacted)) high) in (
       subst IsPruned (sym c.in_ok-prune.ensures.ok) (pruned_stays h to c.self.invariant.0 high),
       subst (λ (t : History). IfSome c.once_compacted.result (AreLatest t)) gone
-          (c.once_compacted.ensures h c.self.invariant.0.is.rising (subst (λ o. IfSome o (AreLatest h)) (sym c.replace-recent.ensures.value) c.self.invariant.1)),
-      subst (λ (t : History). IfSome c.self.inside.held (AreIn t)) gone (still_in h to c.self.inside.held c.self.invariant.0.is.rising high c.self.invariant.2),
+          (c.once_compacted.ensures h c.self.invariant.0.is.rising (subst (λ o. IfSome o (AreLatest h)) (sym c.replace-window.ensures.value) c.self.invariant.1)),
+      subst (λ (t : History). IfSome c.self.inside.cached (AreIn t)) gone (still_in h to c.self.inside.cached c.self.invariant.0.is.rising high c.self.invariant.2),
     )
 
 pub returns-clause-ok : goal.returns-clause-ok

@@ -6,8 +6,8 @@ use Rattle.history.specs.Read.{key_of}
 use Rattle.history.specs.View.{View, state_in}
 use Rattle.history.proofs.Kept.{written_is}
 use Rattle.history.proofs.Views.{view_states}
-use Rattle.revstore.specs.Held.{AreIn}
-use Rattle.revstore.specs.Recent.{AreLatest}
+use Rattle.revstore.specs.CachedObject.{AreIn}
+use Rattle.revstore.specs.ChangeWindow.{AreLatest}
 use Rattle.revstore.proofs.store.Store.write.Goals as goal
 
 pub put-requires-clause-there : goal.put-requires-clause-there
@@ -23,6 +23,6 @@ invariant_of-self-2 c =
     let wrote = sym c.in_ok-put.ensures.ok in (
       subst IsPruned wrote (written_is h _ _ c.self.invariant.0 (omega (arith, c.self.invariant.0.is.high, c.if-current-eq-LAST_REVISION.false, next))),
       subst (λ (t : History). IfSome c.with_change.result (AreLatest t)) wrote
-          (c.with_change.ensures h rise next (subst (λ o. IfSome o (AreLatest h)) (sym c.replace-recent.ensures.value) c.self.invariant.1) (c.write_over-before.ensures.before h c.self.invariant.2)),
+          (c.with_change.ensures h rise next (subst (λ o. IfSome o (AreLatest h)) (sym c.replace-window.ensures.value) c.self.invariant.1) (c.write_over-before.ensures.before h c.self.invariant.2)),
       subst (λ (t : History). IfSome c.write_over-before.new.slots (AreIn t)) wrote (c.write_over-before.ensures.next h rise next c.self.invariant.2),
     )

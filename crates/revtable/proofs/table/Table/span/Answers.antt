@@ -5,7 +5,7 @@ use Rattle.history.specs.Page.{changes_within, picked}
 use Rattle.revtable.specs.Asked.{deletions}
 use Rattle.history.specs.Read.{change_of}
 use Rattle.revtable.specs.Rows.{shown}
-use Rattle.revtable.proofs.Fronts.{part_deleted, part_made}
+use Rattle.revtable.proofs.Prefixes.{part_deleted, part_made}
 use Rattle.revtable.proofs.Numbers.{first_of_none, span_is, span_none, span_rises, span_whole, up_rises}
 use Rattle.revtable.proofs.Outcomes.{when_ok}
 use Rattle.revtable.proofs.table.Table.span.Goals as goal

@@ -1,5 +1,5 @@
 use Rattle.std.proofs.Common.{map, sym, ◌∙◌}
-use Rattle.fieldpath.specs.Elems.{element}
+use Rattle.fieldpath.specs.ElementViews.{element}
 use Rattle.schema.specs.Shape.{shape}
 use Rattle.schema.proofs.Steps.{place-steps}
 use Rattle.schema.proofs.schema.Schema.place.Goals as goal

@@ -1,8 +1,8 @@
 use Rattle.std.proofs.Common.{◌≡◌, map, [], ◌∷◌, ◌++◌, true}
 use Rattle.std.specs.Vec.Iter.{into_iter_items}
 use Rattle.serving.specs.Rising.{are_rising}
-use Rattle.serving.specs.ServerSeen.{limits_of, next_of, watches_of}
-use Rattle.httpedge.specs.Streams.{MovesBy}
+use Rattle.serving.specs.ServerViews.{limits_of, next_of, watches_of}
+use Rattle.httpedge.specs.StreamViews.{MovesBy}
 use Rattle.serving.specs.Tidies.{PumpsAll}
 use Rattle.serving.proofs.server.Server.pump_watches.Given as goal
 

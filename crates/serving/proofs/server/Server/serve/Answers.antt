@@ -1,6 +1,6 @@
 use Rattle.std.proofs.Common.{◌∙◌, ◌+◌, ◌∷◌, [], ap}
-use Rattle.serving.specs.ServerSeen.{watches_of, with_kept}
-use Rattle.serving.proofs.Hearing.{served_none, served_then}
+use Rattle.serving.specs.ServerViews.{watches_of, with_kept}
+use Rattle.serving.proofs.Receiving.{served_none, served_then}
 use Rattle.serving.proofs.Rising.{next_opens, without_one}
 use Rattle.serving.proofs.server.Server.serve.Goals as goal
 

@@ -1,5 +1,5 @@
 use Rattle.schema.specs.Shape.{shape}
-use Rattle.typed.proofs.Taken.{never_told, none_read, none_taken, some_read, some_taken}
+use Rattle.typed.proofs.Taken.{never_reported, none_read, none_taken, some_read, some_taken}
 use Rattle.typed.proofs.tree.Tree.carried.Goals as goal
 
 pub returns-in_default-clause-is : goal.returns-in_default-clause-is
@@ -33,4 +33,4 @@ pub returns-in-Ok-clause-printed : goal.returns-in-Ok-clause-printed
 returns-in-Ok-clause-printed c = (some_taken (shape c.args.schemas.old.now) (shape c.args.schemas.new.now) c.args.self.now c.args.schemas.was_object c.args.schemas.is_object c.args.schemas.lawful c.requires c.in_ok-value.field-0 c.in-Some.value c.in-Some.is c.in_ok-value.ensures c.in-Ok.tree c.in-Ok.ensures).3
 
 pub unreachable-requires : goal.unreachable-requires
-unreachable-requires c = never_told (shape c.args.schemas.old.now) (shape c.args.schemas.new.now) c.args.self.now c.args.schemas.was_object c.args.schemas.is_object c.args.schemas.lawful c.requires c.in_ok-value.field-0 c.in-Some.value c.in-Some.is c.in_ok-value.ensures c.in-Err-Shape.field-0 _ _ c.in-Err-Shape.field-0-is c.in-Err-Shape.ensures
+unreachable-requires c = never_reported (shape c.args.schemas.old.now) (shape c.args.schemas.new.now) c.args.self.now c.args.schemas.was_object c.args.schemas.is_object c.args.schemas.lawful c.requires c.in_ok-value.field-0 c.in-Some.value c.in-Some.is c.in_ok-value.ensures c.in-Err-Shape.field-0 _ _ c.in-Err-Shape.field-0-is c.in-Err-Shape.ensures

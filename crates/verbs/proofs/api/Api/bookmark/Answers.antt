@@ -5,5 +5,5 @@ use Rattle.verbs.specs.Watching.{bookmarked_in}
 use Rattle.verbs.proofs.api.Api.bookmark.Goals as goal
 
 pub returns-clause-bookmarked : goal.returns-clause-bookmarked
-returns-clause-bookmarked c = λ types m stands.
-    IfOk-weaker c.bookmarked.result _ _ (λ o marked. marked ∙ ap (λ (ts : List ServedShape). bookmarked_in ts c.args.cursor.now) (c.types.ensures ∙ stands.serves)) c.bookmarked.ensures.bookmarked
+returns-clause-bookmarked c = λ types m represents.
+    IfOk-weaker c.bookmarked.result _ _ (λ o marked. marked ∙ ap (λ (ts : List ServedShape). bookmarked_in ts c.args.cursor.now) (c.types.ensures ∙ represents.serves)) c.bookmarked.ensures.bookmarked

@@ -6,13 +6,13 @@ use Rattle.verbs.proofs.Planning.{compacts}
 use Rattle.verbs.proofs.api.Api.compact.Goals as goal
 
 pub returns-clause-ok : goal.returns-clause-ok
-returns-clause-ok c = λ types m stands.
-    compacts c.args.self.now _ types m c.args.revision c.compact.result Expired TooLarge stands refl c.compact.ensures.expired c.compact.ensures.too_large c.compact.ensures.ok
+returns-clause-ok c = λ types m represents.
+    compacts c.args.self.now _ types m c.args.revision c.compact.result Expired TooLarge represents refl c.compact.ensures.expired c.compact.ensures.too_large c.compact.ensures.ok
 
 pub returns-clause-expired : goal.returns-clause-expired
-returns-clause-expired c = λ types m stands.
-    subst (λ (n : ℕ). (c.compact.result ≡ Err Expired) ↔ (c.args.revision < n)) (ap (λ (v : View). v.compacted) stands.store) c.compact.ensures.expired
+returns-clause-expired c = λ types m represents.
+    subst (λ (n : ℕ). (c.compact.result ≡ Err Expired) ↔ (c.args.revision < n)) (ap (λ (v : View). v.compacted) represents.store) c.compact.ensures.expired
 
 pub returns-clause-too_large : goal.returns-clause-too_large
-returns-clause-too_large c = λ types m stands.
-    subst (λ (n : ℕ). (c.compact.result ≡ Err TooLarge) ↔ (n < c.args.revision)) (ap (λ (v : View). v.current) stands.store) c.compact.ensures.too_large
+returns-clause-too_large c = λ types m represents.
+    subst (λ (n : ℕ). (c.compact.result ≡ Err TooLarge) ↔ (n < c.args.revision)) (ap (λ (v : View). v.current) represents.store) c.compact.ensures.too_large

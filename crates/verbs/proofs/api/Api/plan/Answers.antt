@@ -4,19 +4,19 @@ use Rattle.std.specs.Prelude.{IfSome}
 use Rattle.history.specs.View.{View}
 use Rattle.api_request.specs.Calls.{Plan}
 use Rattle.verbs.specs.Machine.{ComesAfter}
-use Rattle.api_request.specs.Seen.{call_of, change_of}
-use Rattle.verbs.specs.Seen.{types_of}
+use Rattle.api_request.specs.Views.{call_of, change_of}
+use Rattle.verbs.specs.Views.{types_of}
 use Rattle.verbs.proofs.Fits.{planned_comes}
-use Rattle.verbs.proofs.Planning.{planned_is, planned_next, seen_change, stands_texts}
+use Rattle.verbs.proofs.Planning.{planned_is, planned_next, seen_change, represents_texts}
 use Rattle.verbs.proofs.api.Api.plan.Goals as goal
 
 pub returns-clause-planned : goal.returns-clause-planned
-returns-clause-planned c = λ types m stands.
-    IfOk-weaker c.planned.result _ _ (λ p is. is ∙ planned_is c.args.self.now types m (call_of c.args.call.now) stands) c.planned.ensures.planned
+returns-clause-planned c = λ types m represents.
+    IfOk-weaker c.planned.result _ _ (λ p is. is ∙ planned_is c.args.self.now types m (call_of c.args.call.now) represents) c.planned.ensures.planned
 
 pub returns-clause-next : goal.returns-clause-next
-returns-clause-next c = λ types m stands.
-    IfOk-weaker c.planned.result _ _ (λ p is. planned_next types m c.args.call.now stands.is_machine p (is ∙ planned_is c.args.self.now types m (call_of c.args.call.now) stands)) c.planned.ensures.planned
+returns-clause-next c = λ types m represents.
+    IfOk-weaker c.planned.result _ _ (λ p is. planned_next types m c.args.call.now represents.is_machine p (is ∙ planned_is c.args.self.now types m (call_of c.args.call.now) represents)) c.planned.ensures.planned
 
 pub returns-clause-comes : goal.returns-clause-comes
 returns-clause-comes c =
@@ -27,4 +27,4 @@ returns-clause-comes c =
     c.planned.ensures.planned
 
 pub returns-clause-readable : goal.returns-clause-readable
-returns-clause-readable c = λ types m stands. c.planned.ensures.readable (stands_texts c.args.self.now types m (call_of c.args.call.now) stands)
+returns-clause-readable c = λ types m represents. c.planned.ensures.readable (represents_texts c.args.self.now types m (call_of c.args.call.now) represents)

@@ -3,7 +3,7 @@ use Rattle.history.specs.Read.{key_of}
 use Rattle.objects.specs.ObjectText.{object_text}
 use Rattle.objects.specs.Views.{state_of}
 use Rattle.objects.proofs.Answered.{ok_map}
-use Rattle.verbs.specs.Planner.{type_of}
+use Rattle.verbs.specs.PlannerViews.{type_of}
 use Rattle.verbs.proofs.Said.{text_is}
 use Rattle.verbs.proofs.planner.Planner.printed.Goals as goal
 

@@ -1,7 +1,7 @@
 use Rattle.std.proofs.Common.{◌≡◌, ◌++◌, ◌+◌, length, map}
 use Rattle.std.specs.Vec.Iter.{into_iter_items}
 use Rattle.history.specs.Read.{entry_of, write_of}
-use Rattle.verbs.specs.Gathered.{AreReadable, AreWritable, gathered, new_types, old_types}
+use Rattle.verbs.specs.GatheredViews.{AreReadable, AreWritable, gathered, new_types, old_types}
 use Rattle.verbs.proofs.retyping.Retyper.add_all.Given as goal
 
 -- what is gathered of the objects so far, joined with what is gathered of those that are left
@@ -14,6 +14,6 @@ invariant-loop-entry l =
       can : (goal.iterator-loop-entry).can_next l.entry-iterator;
       finite : (goal.iterator-loop-entry).is_finite l.entry-iterator;
       writable : AreWritable l.self.current ws;
-      told : ws ++ gathered (old_types l.self) (new_types l.self) (l.self.current + length ws) left ≡ first ++ gathered (old_types l.self) (new_types l.self) (l.self.current + length first) (map entry_of l.fn.entries.items);
+      reported : ws ++ gathered (old_types l.self) (new_types l.self) (l.self.current + length ws) left ≡ first ++ gathered (old_types l.self) (new_types l.self) (l.self.current + length first) (map entry_of l.fn.entries.items);
       readable : AreReadable (old_types l.self) (map entry_of l.fn.entries.items) → AreReadable (old_types l.self) left;
     }

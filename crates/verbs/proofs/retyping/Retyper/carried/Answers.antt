@@ -1,7 +1,7 @@
 use Rattle.std.proofs.Common.{rules}
 use Rattle.api_types.specs.Served.{served}
 use Rattle.history.specs.Read.{entry_of}
-use Rattle.verbs.specs.Gathered.{old_types}
+use Rattle.verbs.specs.GatheredViews.{old_types}
 use Rattle.verbs.proofs.Gathering.{readable_entry}
 use Rattle.verbs.proofs.retyping.Retyper.carried.Goals as goal
 

@@ -1,7 +1,7 @@
 use Rattle.std.proofs.Common.{◌≡◌, map}
 use Rattle.history.specs.Read.{write_of}
-use Rattle.verbs.specs.Gathered.{AreWritable, gathered, new_types, old_types}
-use Rattle.verbs.specs.Seen.{objects_in}
+use Rattle.verbs.specs.GatheredViews.{AreWritable, gathered, new_types, old_types}
+use Rattle.verbs.specs.Views.{objects_in}
 use Rattle.verbs.proofs.ByTypes.{of_types_before}
 use Rattle.verbs.proofs.retyping.Retyper.writes.Given as goal
 
@@ -9,6 +9,6 @@ use Rattle.verbs.proofs.retyping.Retyper.writes.Given as goal
 abbrev pub invariant-loop-kind : goal.invariant-loop-kind
 invariant-loop-kind l = record {
   writable : AreWritable l.self.current (map write_of l.writes.items);
-  told : map write_of l.writes.items ≡ gathered (old_types l.self) (new_types l.self) l.self.current (of_types_before l.kind (objects_in l.fn.store));
+  reported : map write_of l.writes.items ≡ gathered (old_types l.self) (new_types l.self) l.self.current (of_types_before l.kind (objects_in l.fn.store));
   same : l.store ≡ l.fn.store;
 }

@@ -1,6 +1,6 @@
 use Rattle.std.proofs.Common.{◌∙◌, ◌++◌, ap, sym}
 use Rattle.std.specs.Prelude.{is_none}
-use Rattle.httpedge.specs.HubSeen.{event_of}
+use Rattle.httpedge.specs.HubViews.{event_of}
 use Rattle.recorder.specs.Recorded.{refusal_of}
 use Rattle.world.specs.Serving.{opened_by}
 use Rattle.world.proofs.Ids.{keys_after, keys_stay}
@@ -16,8 +16,8 @@ returns-in_ok-note-in-None-clause-steps c = λ s serves.
 
 pub returns-in_ok-note-in-None-clause-refused : goal.returns-in_ok-note-in-None-clause-refused
 returns-in_ok-note-in-None-clause-refused c = λ s serves.
-    let told = (c.in_ok-fault.ensures s serves.0).0 in
-    (sym (ap is_none c.in-None.is) ∙ told.0, sym (ap refusal_of c.in-None.is) ∙ told.1)
+    let emitted = (c.in_ok-fault.ensures s serves.0).0 in
+    (sym (ap is_none c.in-None.is) ∙ emitted.0, sym (ap refusal_of c.in-None.is) ∙ emitted.1)
 
 pub returns-in-Some-clause-steps : goal.returns-in-Some-clause-steps
 returns-in-Some-clause-steps c = λ s serves.
@@ -28,5 +28,5 @@ returns-in-Some-clause-steps c = λ s serves.
 
 pub returns-in-Some-clause-refused : goal.returns-in-Some-clause-refused
 returns-in-Some-clause-refused c = λ s serves.
-    let told = (c.in_ok-fault.ensures s serves.0).0 in
-    (sym (ap is_none c.in-Some.is) ∙ told.0, sym (ap refusal_of c.in-Some.is) ∙ told.1)
+    let emitted = (c.in_ok-fault.ensures s serves.0).0 in
+    (sym (ap is_none c.in-Some.is) ∙ emitted.0, sym (ap refusal_of c.in-Some.is) ∙ emitted.1)

@@ -1,9 +1,0 @@
-use Rattle.serde_json.specs.View.{view}
-use Rattle.api_types.specs.FaultPlaces.{Breaks, EndsReading, IsBrokenIn, IsToldOf}
-use Rattle.api_types.proofs.FaultPlaces.{AreMoved, FirstMoved}
-use Rattle.api_types.proofs.locate.all_placed.Given as goal
-
-abbrev pub invariant-loop-broken : goal.invariant-loop-broken
-invariant-loop-broken l =
-    AreMoved (IsBrokenIn Breaks (view l.fn.value)) (IsToldOf Breaks l.fn.number (view l.fn.value)) l.fn.inner.items l.broken-iterator.rest.items l.all.items
-    × FirstMoved (IsBrokenIn EndsReading (view l.fn.value)) (IsToldOf EndsReading l.fn.number (view l.fn.value)) l.fn.inner.items l.broken-iterator.rest.items l.all.items

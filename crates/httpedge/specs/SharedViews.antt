@@ -1,0 +1,28 @@
+-- When what all connections share stands for a machine: the API does, and the last turn is what a watch sends from that machine.
+use Rattle.std.specs.Prelude.{◌≡◌, ℕ, List, Option, Some, IfSome}
+use Rattle.api_types.specs.TypesFile.{ServedShape}
+use Rattle.history.specs.History.{History}
+use Rattle.verbs.specs.Views.{ApiRepresents}
+use Rattle.watchline.specs.Watches.{Cursor, from_history, moved, pumped}
+use Rattle.watchline.specs.declared.cursor.ResumePoint.{ResumePoint}
+use Rattle.requests.specs.ReplyBytes.{chunks}
+use Rattle.httpedge.specs.declared.shared.CachedTurn.{CachedTurn}
+use Rattle.httpedge.specs.declared.shared.Shared.{Shared}
+
+-- a watch that stands as the turn's did sends these lines, and its bytes are their chunks
+pub record IsTurnFrom (m : History) (last : CachedTurn) : Type 0 where
+  pub lines : List (List ℕ)
+  pub sent : pumped (from_history m) last.max last.before
+      ≡ record { lines = lines; ended = last.has_ended; next = moved last.before last.resume_point.position last.resume_point.sent last.before.left }
+  pub bytes : last.bytes.items ≡ chunks lines last.has_ended
+
+-- for private clauses: a watch that stands so, and stood so where it had sent up to there, has sent up to here
+pub record TurnEnds (there : Option ResumePoint) (next before : Cursor) (here : ResumePoint) : Type 0 where
+  pub start : ResumePoint
+  pub there_is : there ≡ Some start
+  pub before_is : before ≡ moved next start.position start.sent next.left
+  pub position : here.position ≡ next.position
+  pub sent : here.sent ≡ next.sent
+
+abbrev pub SharedRepresents : Shared → List ServedShape → History → Type 0
+SharedRepresents shared types m = ApiRepresents shared.api types m × IfSome shared.last (IsTurnFrom m)

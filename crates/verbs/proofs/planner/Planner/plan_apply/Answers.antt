@@ -1,0 +1,19 @@
+use Rattle.std.proofs.Common.{◌≡◌, Ok, subst}
+use Rattle.params.specs.declared.params.Asked.TheVariants as asked
+use Rattle.serde_json.specs.View.{view}
+use Rattle.api_request.specs.declared.method.Method.TheVariants.{Patch}
+use Rattle.history.specs.Read.{key_of}
+use Rattle.verbs.specs.PlannerViews.{call_of_entry, type_of}
+use Rattle.verbs.specs.Views.{intent_seen}
+use Rattle.verbs.specs.Step.{at_path, intent_of}
+use Rattle.verbs.proofs.Contents.{intended_content}
+use Rattle.verbs.proofs.planner.Planner.plan_apply.Goals as goal
+
+pub applied_over-requires-clause-content : goal.applied_over-requires-clause-content
+applied_over-requires-clause-content c =
+    let t = type_of c.args.self in
+    let q = (call_of_entry c.args.self).query in
+    let d = view c.in_ok-body.body.now in
+    let i = intent_seen c.in_ok-intent.intent in
+    intended_content (at_path t (key_of c.args.key) Patch c.args.subresource) asked.Apply q d i c.requires.planner.1 c.in_ok-body.ensures.json
+    (subst (λ of. intent_of of asked.Apply q d ≡ Ok i) c.at_path-expected.ensures c.in_ok-intent.ensures)

@@ -1,0 +1,27 @@
+-- What is cached of texts: the states that they say.
+use Rattle.std.specs.Prelude.{◌≡◌, ℕ, IfSome, List, Some, slice_get, string_bytes}
+use Rattle.std.specs.List.{All}
+use Rattle.api_types.specs.TypesFile.{ServedShape}
+use Rattle.objects.specs.State.{State}
+use Rattle.objects.specs.WellTyped.{IsWellTypedState}
+use Rattle.objects.specs.Views.{state_of}
+use Rattle.verbs.specs.Machine.{decoded_state}
+use Rattle.verbs.specs.declared.cached.CachedState.{CachedState}
+use Rattle.verbs.specs.declared.slot.Slot.{Slot}
+
+-- the state is the one that the text says of an object of the type
+abbrev pub IsDecodedFrom : ServedShape → List ℕ → State → Type 0
+IsDecodedFrom t text state = (decoded_state t.shape text ≡ state) × IsWellTypedState t.shape state
+
+abbrev pub IsCoherent : ServedShape → CachedState → Type 0
+IsCoherent t r = IsDecodedFrom t (string_bytes r.text) (state_of r.state)
+
+-- of the type with this number
+abbrev pub IsCoherentAt : List ServedShape → ℕ → CachedState → Type 0
+IsCoherentAt types kind r = (t : ServedShape) → slice_get types kind ≡ Some t → IsCoherent t r
+
+abbrev pub IsCoherentIn : List ServedShape → Slot → Type 0
+IsCoherentIn types slot = IfSome slot.cached (IsCoherentAt types slot.kind)
+
+abbrev pub AreCoherent : List ServedShape → List Slot → Type 0
+AreCoherent types slots = All (IsCoherentIn types) slots

@@ -1,8 +1,0 @@
-use Rattle.watchline.proofs.Onward.{left_in_order, tell_in_order}
-use Rattle.watchline.proofs.laws.turns_tell_in_order.Goals as goal
-
-pub returns-clause-lines : goal.returns-clause-lines
-returns-clause-lines c = tell_in_order
-
-pub returns-clause-left : goal.returns-clause-left
-returns-clause-left c = left_in_order
