@@ -10,6 +10,8 @@ mod borrowed;
 #[cfg(test)]
 mod contents;
 #[cfg(test)]
+mod discovery;
+#[cfg(test)]
 mod elements;
 #[cfg(test)]
 mod fields_v1;

@@ -1,0 +1,4 @@
+pub mod Appended
+pub mod Loops
+pub mod Joined
+pub mod Placing

@@ -1,0 +1,6 @@
+pub mod Groups
+pub mod Documents
+pub mod OpenApi
+pub mod Paths
+pub mod Views
+pub mod Writing

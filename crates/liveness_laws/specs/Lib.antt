@@ -1,0 +1,3 @@
+pub mod Listable
+pub mod Moves
+pub mod Progress
