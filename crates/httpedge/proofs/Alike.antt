@@ -3,12 +3,12 @@ use Rattle.std.proofs.Common.{◌≡◌, ℕ, zero, suc, Bool, true, false, true
 use Rattle.std.specs.Prelude.{nat_lt, is_some, IfSome}
 use Rattle.history.specs.History.{History, Key, Object}
 use Rattle.watchline.specs.Views.{lines_in, turn_of}
-use Rattle.watchline.specs.Watches.{Cursor, InitialLeft, HistoryWindow, is_none_left, no_initial_left, initial_left_from, Turn, entries_left, expiring, from_history, left_behind, left_past, moved, pumped, sending, with_bookmarks}
+use Rattle.watchline.specs.Watches.{Cursor, InitialLeft, HistoryWindow, is_none_left, no_initial_left, initial_left_from, Turn, entries_left, expiring, from_history, initial_left_after, initial_left_after_count, moved, pumped, sending, with_bookmarks}
 use Rattle.watchline.specs.declared.cursor.ResumePoint.{ResumePoint}
 use Rattle.watchline.specs.declared.cursor.Pumped.{Pumped as ThePumped}
 use Rattle.requests.specs.ReplyBytes.{chunks}
 use Rattle.httpedge.specs.ConnectionViews.{Pumps}
-use Rattle.httpedge.specs.SharedViews.{TurnEnds, IsTurnFrom}
+use Rattle.httpedge.specs.SharedViews.{TurnSpan, IsTurnFrom}
 use Rattle.httpedge.specs.declared.shared.CachedTurn.{CachedTurn}
 
 -- ---- bookmarks alone are told otherwise
@@ -34,11 +34,11 @@ Stays w next = next ≡ moved w next.position next.sent w.left
 from_isnt : (place : Option (List ℕ × List ℕ)) → initial_left_from place ≡ no_initial_left → ⊥
 from_isnt place e = cc
 
-either : (b : Bool) → left_behind (cond b None None) ≡ no_initial_left
+either : (b : Bool) → initial_left_after (cond b None None) ≡ no_initial_left
 either true = refl
 either false = refl
 
-none_past : (max kind : ℕ) (left : InitialLeft) (es : List (Key × Object)) → left ≡ no_initial_left → left_past max (entries_left kind left es) left ≡ left
+none_past : (max kind : ℕ) (left : InitialLeft) (es : List (Key × Object)) → left ≡ no_initial_left → initial_left_after_count max (entries_left kind left es) left ≡ left
 none_past zero kind left es none = refl
 none_past (suc n) kind no_initial_left es none = either (nat_lt (suc n) 0)
 none_past (suc n) kind (initial_left_from place) es none = absurd (from_isnt place none)
@@ -58,7 +58,7 @@ none_left_by (initial_left_from place) e = absurd (true≢false (sym e))
 
 -- what a watch told is the turn of its copy, moved to where it had told before
 pub is_last : (m : History) (last : CachedTurn) (w next : Cursor) (there : Option ResumePoint) (p : ThePumped) → turn_of p next ≡ pumped (from_history m) last.max w
-    → IfSome there (λ r. (r.position ≡ w.position) × (r.sent ≡ w.sent)) → is_some there ≡ is_none_left w.left → TurnEnds there next last.before last.resume_point
+    → IfSome there (λ r. (r.position ≡ w.position) × (r.sent ≡ w.sent)) → is_some there ≡ is_none_left w.left → TurnSpan there next last.before last.resume_point
     → last.has_ended ≡ p.ended → last.bytes.items ≡ chunks (lines_in p.lines.items) p.ended → IsTurnFrom m last
 is_last m last w next there p sent stood some ends ended bytes = record {
   lines = lines_in p.lines.items;

@@ -12,13 +12,13 @@ use Rattle.httpedge.specs.SharedViews.{SharedRepresents}
 use Rattle.httpedge.specs.declared.connection.Connection as conns
 use Rattle.httpedge.specs.declared.connection.Connection.TheVariants as conn
 use Rattle.httpedge.specs.declared.connections.Connections.{Connections as Kept}
-use Rattle.httpedge.specs.declared.event.Change as changes
-use Rattle.httpedge.specs.declared.event.Change.TheVariants as change
+use Rattle.httpedge.specs.declared.event.ConnectionInput as changes
+use Rattle.httpedge.specs.declared.event.ConnectionInput.TheVariants as change
 use Rattle.httpedge.specs.declared.ids.Ids.{Ids}
 use Rattle.httpedge.specs.declared.out.Out.{Out}
 use Rattle.httpedge.specs.ChangeViews.{Changes, Makes, Receives}
-use Rattle.httpedge.specs.Connections.{Connection, Phase, waiting, watching, ended, gone, has_ended, is_open, left_out, with_phase, with_taken}
-use Rattle.httpedge.specs.ConnectionViews.{BecomesAt, Closes, Forgets, ConnectionRepresents, IsApart, IsAt, IsFresh, IsSame, Opens, PutAt, found, has_ended_in, held_or, is_open_in, is_waiting_in, left, out_in, over_by, had_ended_if_over_in, over_of}
+use Rattle.httpedge.specs.Connections.{Connection, Phase, waiting, watching, ended, gone, has_ended, is_open, untaken_in, with_phase, with_taken}
+use Rattle.httpedge.specs.ConnectionViews.{BecomesAt, OpenIdsAfter, Forgets, ConnectionRepresents, IsApart, IsAt, IsFresh, IsSame, Opens, PutAt, found, has_ended_in, held_or, is_open_in, is_waiting_in, left, out_in, closed_by, had_ended_if_over_in, had_ended_by_ids}
 use Rattle.httpedge.specs.HubViews.{Outcome, done, refusal_in, refused}
 use Rattle.httpedge.specs.IdViews.{is_in}
 use Rattle.httpedge.specs.Steps.{unknown_id}
@@ -55,26 +55,26 @@ here held held' id e put = put id ∙ ap (λ (b : Bool). cond b (Some e) (get na
 abbrev pub with_held : Kept → Map → Kept
 with_held k h = record { held = h; open_ids = k.open_ids; ended = k.ended; cut = k.cut; highest = k.highest }
 
-pub found_held : (k : Kept) (id : ℕ) (o : Option conns.Connection) → get nat_cmp k.held id ≡ o → found k id ≡ held_or o (over_by (is_in k.ended.ranges id) (is_in k.cut.ranges id))
-found_held k id o at = ap (λ (o : Option conns.Connection). held_or o (over_by (is_in k.ended.ranges id) (is_in k.cut.ranges id))) at
+pub found_held : (k : Kept) (id : ℕ) (o : Option conns.Connection) → get nat_cmp k.held id ≡ o → found k id ≡ held_or o (closed_by (is_in k.ended.ranges id) (is_in k.cut.ranges id))
+found_held k id o at = ap (λ (o : Option conns.Connection). held_or o (closed_by (is_in k.ended.ranges id) (is_in k.cut.ranges id))) at
 
 -- one that isn't held had ended or not; it doesn't wait, and nothing is out on it
-pub ended_over : (a b : Bool) → unwrap_or (over_of a b) false ≡ unwrap_or (option_map has_ended_in (over_by a b)) false
+pub ended_over : (a b : Bool) → unwrap_or (had_ended_by_ids a b) false ≡ unwrap_or (option_map has_ended_in (closed_by a b)) false
 ended_over true b = refl
 ended_over false true = refl
 ended_over false false = refl
 
-pub waiting_over : (a b : Bool) → false ≡ unwrap_or (option_map is_waiting_in (over_by a b)) false
+pub waiting_over : (a b : Bool) → false ≡ unwrap_or (option_map is_waiting_in (closed_by a b)) false
 waiting_over true b = refl
 waiting_over false true = refl
 waiting_over false false = refl
 
-pub out_over : (a b : Bool) → [] ≡ unwrap_or (option_map out_in (over_by a b)) []
+pub out_over : (a b : Bool) → [] ≡ unwrap_or (option_map out_in (closed_by a b)) []
 out_over true b = refl
 out_over false true = refl
 out_over false false = refl
 
-pub known_over : (a b : Bool) → is_some (over_of a b) ≡ is_some (over_by a b)
+pub known_over : (a b : Bool) → is_some (had_ended_by_ids a b) ≡ is_some (closed_by a b)
 known_over true b = refl
 known_over false true = refl
 known_over false false = refl
@@ -91,7 +91,7 @@ still_apart old held' id e was apart put q has = go (eq_by_cmp nat_cmp id q) (ti
 
 pub becomes_at : (types : List ServedShape) (still : Bool) (c : Connection) (id : ℕ) (old mid new : Kept) (held' : Map) (e : conns.Connection) → ConnectionRepresents types e c
     → is_some (get nat_cmp old.held id) ≡ true → IsApart old → ((q : ℕ) → get nat_cmp held' q ≡ cond (eq_by_cmp nat_cmp id q) (Some e) (get nat_cmp old.held q))
-    → mid.held ≡ held' → mid.ended ≡ old.ended → mid.cut ≡ old.cut → mid.highest ≡ old.highest → Closes id still old mid
+    → mid.held ≡ held' → mid.ended ≡ old.ended → mid.cut ≡ old.cut → mid.highest ≡ old.highest → OpenIdsAfter id still old mid
     → (get nat_cmp mid.held id ≡ Some e → IsApart mid → Forgets id e mid new) → BecomesAt types still c id old new
 becomes_at types still c id old mid new held' e holds was apart put held_is ended_is cut_is highest_is closes forgets =
     let at : get nat_cmp mid.held id ≡ Some e = ap (λ (m : Map). get nat_cmp m id) held_is ∙ here old.held held' id e put in
@@ -107,13 +107,13 @@ becomes_at types still c id old mid new held' e holds was apart put held_is ende
   where
     mid_put : PutAt id e (found old) (found mid)
     mid_put q =
-        ap₂ (λ (m : Map) (o : Option conns.Connection). held_or (get nat_cmp m q) o) held_is (ap₂ over_by (ap (λ (i : Ids). is_in i.ranges q) ended_is) (ap (λ (i : Ids). is_in i.ranges q) cut_is))
+        ap₂ (λ (m : Map) (o : Option conns.Connection). held_or (get nat_cmp m q) o) held_is (ap₂ closed_by (ap (λ (i : Ids). is_in i.ranges q) ended_is) (ap (λ (i : Ids). is_in i.ranges q) cut_is))
         ∙ found_put old.held held' (is_in old.ended.ranges) (is_in old.cut.ranges) id e put q
 
     mid_apart : IsApart mid
     mid_apart q has = ap (λ (i : Ids). is_in i.ranges q) ended_is ∙ still_apart old held' id e was apart put q (sym (ap (λ (m : Map). is_some (get nat_cmp m q)) held_is) ∙ has)
 
-pub closes_none : (id : ℕ) (k : Kept) → Closes id true k k
+pub closes_none : (id : ℕ) (k : Kept) → OpenIdsAfter id true k k
 closes_none id k q = go (eq_by_cmp nat_cmp id q) (contains nat_cmp k.open_ids q)
   where
     go : (b x : Bool) → x ≡ cond b (x && true) x
@@ -142,7 +142,7 @@ none_left : (types : List ServedShape) (out : Out) (c : Connection) (h b : Bool)
 none_left types out c h true is over (represents, rest) = (
   ap is_open represents,
   ap has_ended represents ∙ some_of over,
-  ap (λ (st : Phase). left_out st (drop c.taken c.written)) represents ∙ rest ∙ no_bytes (left out) (eqb-true (length (left out)) 0 is),
+  ap (λ (st : Phase). untaken_in st (drop c.taken c.written)) represents ∙ rest ∙ no_bytes (left out) (eqb-true (length (left out)) 0 is),
 )
 none_left types out c h false is over holds = absurd (none_some over)
 
@@ -160,8 +160,8 @@ forgets_none id d old new at apart held_is open_is highest_is ended_is cut_is = 
   one = d;
   as_much = λ types c holds. holds;
   put = λ q.
-      ap₂ (λ (m : Map) (o : Option conns.Connection). held_or (get nat_cmp m q) o) held_is (ap₂ over_by (ended_is q) (cut_is q))
-      ∙ self_put (found old) id d (ap (λ (o : Option conns.Connection). held_or o (over_by (is_in old.ended.ranges id) (is_in old.cut.ranges id))) at) q;
+      ap₂ (λ (m : Map) (o : Option conns.Connection). held_or (get nat_cmp m q) o) held_is (ap₂ closed_by (ended_is q) (cut_is q))
+      ∙ self_put (found old) id d (ap (λ (o : Option conns.Connection). held_or o (closed_by (is_in old.ended.ranges id) (is_in old.cut.ranges id))) at) q;
   open_is = open_is;
   highest = highest_is;
   apart = λ q has. ended_is q ∙ apart q (sym (ap (λ (m : Map). is_some (get nat_cmp m q)) held_is) ∙ has);
@@ -176,7 +176,7 @@ forgets_one id d h old new at over apart held_is open_is highest_is ended_is cut
   one = conn.Closed h;
   as_much = λ types c holds. over_holds types d c h over holds;
   put = λ q.
-      ap₂ held_or (held_is q) (ap₂ over_by (ended_is q) (cut_is q))
+      ap₂ held_or (held_is q) (ap₂ closed_by (ended_is q) (cut_is q))
       ∙ go (eq_by_cmp nat_cmp id q) h (get nat_cmp old.held q) (is_in old.ended.ranges q) (is_in old.cut.ranges q);
   open_is = open_is;
   highest = highest_is;
@@ -184,7 +184,7 @@ forgets_one id d h old new at over apart held_is open_is highest_is ended_is cut
 }
   where
     go : (b h : Bool) (o : Option conns.Connection) (x y : Bool)
-        → held_or (cond b None o) (over_by (cond b h x) (cond (b && cond h false true) true y)) ≡ cond b (Some (conn.Closed h)) (held_or o (over_by x y))
+        → held_or (cond b None o) (closed_by (cond b h x) (cond (b && cond h false true) true y)) ≡ cond b (Some (conn.Closed h)) (held_or o (closed_by x y))
     go true true o x y = refl
     go true false o x y = refl
     go false h o x y = refl
@@ -221,23 +221,23 @@ receives_closed types m last_tick c ended bytes shared closed represents = (refl
 receives_closed types m last_tick c (gone had_ended) bytes shared closed represents = (refl, represents)
 
 -- what it makes of it, and that it is over
-makes_over : (types : List ServedShape) (m : History) (last_tick : ℕ) (what : changes.Change) (c : Connection) (h : Bool) (shared : Shared) → SharedRepresents shared types m → ConnectionRepresents types (conn.Closed h) c
+makes_over : (types : List ServedShape) (m : History) (last_tick : ℕ) (what : changes.ConnectionInput) (c : Connection) (h : Bool) (shared : Shared) → SharedRepresents shared types m → ConnectionRepresents types (conn.Closed h) c
     → (c' : Connection) × Makes types m last_tick what c c' shared × ConnectionRepresents types (conn.Closed h) c'
 makes_over types m last_tick (change.Bytes bytes) c h shared represents holds = (c, receives_closed types m last_tick c c.phase bytes.now shared holds.0 represents, holds)
 makes_over types m last_tick (change.Lines max) c h shared represents holds = (c, (sym (turn_closed (pumped m max) c c.phase holds.0), represents), holds)
 makes_over types m last_tick change.Gone c h shared represents holds = (with_phase c (gone (has_ended c.phase)), (refl, represents), (refl, holds.1, refl))
 
 -- one that isn't held is over
-is_over : (a b : Bool) (d : conns.Connection) → over_by a b ≡ Some d → (h : Bool) × (d ≡ conn.Closed h)
+is_over : (a b : Bool) (d : conns.Connection) → closed_by a b ≡ Some d → (h : Bool) × (d ≡ conn.Closed h)
 is_over true b d is = (true, sym (some_of is))
 is_over false true d is = (false, sym (some_of is))
 is_over false false d is = absurd (none_some is)
 
-pub passes : (types : List ServedShape) (m : History) (last_tick : ℕ) (what : changes.Change) (id : ℕ) (d : conns.Connection) (c : Connection) (k : Kept) (shared : Shared) → SharedRepresents shared types m
+pub passes : (types : List ServedShape) (m : History) (last_tick : ℕ) (what : changes.ConnectionInput) (id : ℕ) (d : conns.Connection) (c : Connection) (k : Kept) (shared : Shared) → SharedRepresents shared types m
     → get nat_cmp k.held id ≡ None → IsAt id d k → ConnectionRepresents types d c → Changes types m last_tick what id c k k shared done
 passes types m last_tick what id d c k shared represents none (at, there, apart) holds =
     let over = is_over (is_in k.ended.ranges id) (is_in k.cut.ranges id) d
-    (sym (ap (λ (o : Option conns.Connection). held_or o (over_by (is_in k.ended.ranges id) (is_in k.cut.ranges id))) none) ∙ at) in
+    (sym (ap (λ (o : Option conns.Connection). held_or o (closed_by (is_in k.ended.ranges id) (is_in k.cut.ranges id))) none) ∙ at) in
     let made = makes_over types m last_tick what c over.0 shared represents (subst (λ (x : conns.Connection). ConnectionRepresents types x c) over.1 holds) in (
       made.0,
       made.1,
@@ -272,17 +272,17 @@ takes_passed types id n d c old new none same (at, there, apart) holds =
       apart = apart;
     })
 
-known_by : (a b : Bool) (f : Option conns.Connection) → held_or None (over_by a b) ≡ f → is_some (over_of a b) ≡ is_some f
+known_by : (a b : Bool) (f : Option conns.Connection) → held_or None (closed_by a b) ≡ f → is_some (had_ended_by_ids a b) ≡ is_some f
 known_by a b f is = known_over a b ∙ ap is_some is
 
 abbrev pub Passes : Kept → ℕ → Outcome → Type 0
-Passes k id o = o ≡ cond (is_some (over_of (is_in k.ended.ranges id) (is_in k.cut.ranges id))) done (refused unknown_id)
+Passes k id o = o ≡ cond (is_some (had_ended_by_ids (is_in k.ended.ranges id) (is_in k.cut.ranges id))) done (refused unknown_id)
 
 passed_is : (k : Kept) (id : ℕ) (f : Option conns.Connection) (o : Outcome) → get nat_cmp k.held id ≡ None → Passes k id o → found k id ≡ f → o ≡ cond (is_some f) done (refused unknown_id)
 passed_is k id f o none passes is =
     passes ∙ ap (λ (b : Bool). cond b done (refused unknown_id)) (known_by (is_in k.ended.ranges id) (is_in k.cut.ranges id) f (sym (found_held k id None none) ∙ is))
 
-pub pass_known : (types : List ServedShape) (m : History) (last_tick : ℕ) (what : changes.Change) (id : ℕ) (d : conns.Connection) (c : Connection) (old new : Kept) (shared : Shared) (o : Outcome) → SharedRepresents shared types m
+pub pass_known : (types : List ServedShape) (m : History) (last_tick : ℕ) (what : changes.ConnectionInput) (id : ℕ) (d : conns.Connection) (c : Connection) (old new : Kept) (shared : Shared) (o : Outcome) → SharedRepresents shared types m
     → get nat_cmp old.held id ≡ None → new ≡ old → Passes old id o → IsAt id d old → ConnectionRepresents types d c → Changes types m last_tick what id c old new shared o
 pass_known types m last_tick what id d c old new shared o represents none same passed at holds =
     subst (Changes types m last_tick what id c old new shared) (sym (passed_is old id (Some d) o none passed at.0))
@@ -309,7 +309,7 @@ ok_not_err r is isnt = cc
 
 -- ---- one is opened
 
-fresh_parts : (o : Option conns.Connection) (a b : Bool) → held_or o (over_by a b) ≡ None → (o ≡ None) × (a ≡ false)
+fresh_parts : (o : Option conns.Connection) (a b : Bool) → held_or o (closed_by a b) ≡ None → (o ≡ None) × (a ≡ false)
 fresh_parts None true b is = absurd (none_some (sym is))
 fresh_parts None false b is = (refl, refl)
 fresh_parts (Some d) a b is = absurd (none_some (sym is))
@@ -319,7 +319,7 @@ pub opens_one : (id : ℕ) (d : conns.Connection) (old new : Kept) → IsFresh i
     → Opens id d old new
 opens_one id d old new (none, shut, apart) put listed ended_is cut_is highest = record {
   put = λ q.
-      ap (held_or (get nat_cmp new.held q)) (ap₂ over_by (ap (λ (i : Ids). is_in i.ranges q) ended_is) (ap (λ (i : Ids). is_in i.ranges q) cut_is))
+      ap (held_or (get nat_cmp new.held q)) (ap₂ closed_by (ap (λ (i : Ids). is_in i.ranges q) ended_is) (ap (λ (i : Ids). is_in i.ranges q) cut_is))
       ∙ found_put old.held new.held (is_in old.ended.ranges) (is_in old.cut.ranges) id d put q;
   open_is = listed;
   highest = highest;
@@ -333,7 +333,7 @@ opens_one id d old new (none, shut, apart) put listed ended_is cut_is highest = 
 pub same_opened : (id : ℕ) (old new : Kept) → IsFresh id old → ((q : ℕ) → get nat_cmp new.held q ≡ get nat_cmp old.held q) → ((q : ℕ) → contains nat_cmp new.open_ids q ≡ contains nat_cmp old.open_ids q)
     → new.ended ≡ old.ended → new.cut ≡ old.cut → new.highest ≡ old.highest → IsSame old new
 same_opened id old new (none, shut, apart) held_is open_is ended_is cut_is highest_is = record {
-  found_is = λ q. ap₂ held_or (held_is q) (ap₂ over_by (ap (λ (i : Ids). is_in i.ranges q) ended_is) (ap (λ (i : Ids). is_in i.ranges q) cut_is));
+  found_is = λ q. ap₂ held_or (held_is q) (ap₂ closed_by (ap (λ (i : Ids). is_in i.ranges q) ended_is) (ap (λ (i : Ids). is_in i.ranges q) cut_is));
   open_is = open_is;
   highest = highest_is;
   apart = λ q has. ap (λ (i : Ids). is_in i.ranges q) ended_is ∙ apart q (sym (ap is_some (held_is q)) ∙ has);

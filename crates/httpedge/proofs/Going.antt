@@ -6,7 +6,7 @@ use Rattle.std.specs.FinMap as fin
 use Rattle.std.specs.Ordering.{nat_cmp, eq_by_cmp}
 use Rattle.requests.specs.Asks.{CallDecision}
 use Rattle.verbs.specs.Retyping.{retyping}
-use Rattle.httpedge.specs.Connections.{Connection, Connections, Phase, waiting, watching, ended, gone, each, gone_on, has_ended, has_gone, is_new, is_open, is_watching, left_out, out_of, out_on, with_phase, with_taken}
+use Rattle.httpedge.specs.Connections.{Connection, Connections, Phase, waiting, watching, ended, gone, each, gone_on, has_ended, has_gone, is_new, is_open, is_watching, untaken_in, out_of, out_on, with_phase, with_taken}
 use Rattle.httpedge.specs.Runs.{Follows, Action, happens, runs_out_of_memory, takes}
 use Rattle.httpedge.specs.Steps.{Event, Refusal, State, id_not_above, opens, comes, goes, pumps, ticks, compacts, retypes, by_connection, killed, killed_or_ticked, opening, received_by, refusal, out_of_memory, applied_event, unless_refused, with_connection, with_turn}
 use Rattle.httpedge.specs.Watches.{pumped, ticked}
@@ -28,7 +28,7 @@ isnt_open (watching w) is = absurd cc
 isnt_open ended is = refl
 isnt_open (gone had_ended) is = refl
 
-nothing_left : (st : Phase) (out : List ℕ) → has_gone st ≡ true → left_out st out ≡ []
+nothing_left : (st : Phase) (out : List ℕ) → has_gone st ≡ true → untaken_in st out ≡ []
 nothing_left (waiting prefix) out is = absurd cc
 nothing_left (watching w) out is = absurd cc
 nothing_left ended out is = absurd cc

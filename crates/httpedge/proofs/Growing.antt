@@ -8,7 +8,7 @@ use Rattle.std.proofs.lemmas.List.{take-append-drop}
 use Rattle.api_types.specs.TypesFile.{ServedShape}
 use Rattle.history.specs.History.{History}
 use Rattle.requests.specs.Asks.{CallDecision}
-use Rattle.httpedge.specs.Connections.{Connection, Connections, Phase, waiting, watching, ended, gone, each, has_gone, is_new, is_open, left_out, out_of, out_on, with_phase, written_on}
+use Rattle.httpedge.specs.Connections.{Connection, Connections, Phase, waiting, watching, ended, gone, each, has_gone, is_new, is_open, untaken_in, out_of, out_on, with_phase, written_on}
 use Rattle.requests.specs.Decision.{undecided, refused, accepted}
 use Rattle.httpedge.specs.Runs.{Follows, Action, happens, runs_out_of_memory, takes}
 use Rattle.httpedge.specs.Steps.{Event, Refusal, State, id_not_above, opens, comes, goes, pumps, ticks, compacts, retypes, after_turn, by_connection, connection_after, killed, killed_or_ticked, opening, received_by, refusal, applied_event, out_of_memory, unless_refused, turn_bytes, with_connection, with_turn, writes_at}
@@ -126,7 +126,7 @@ grows s t (takes id n) q is = subst (λ (x : State). Grows (fin.get s.connection
 
 -- ---- what was taken, and what is out
 
-all_out : (st : Phase) (bytes : List ℕ) → has_gone st ≡ false → left_out st bytes ≡ bytes
+all_out : (st : Phase) (bytes : List ℕ) → has_gone st ≡ false → untaken_in st bytes ≡ bytes
 all_out (waiting prefix) bytes is = refl
 all_out (watching w) bytes is = refl
 all_out ended bytes is = refl

@@ -10,8 +10,8 @@ use Rattle.requests.specs.Decision.{undecided, refused, accepted}
 use Rattle.httpedge.specs.declared.connection.Connection as conns
 use Rattle.httpedge.specs.ChangeViews.{MakesRepresented, Receives}
 use Rattle.httpedge.specs.Connections.{Connection, Phase, waiting, watching, ended, gone, has_ended, is_open, new_connection, with_phase}
-use Rattle.httpedge.specs.ConnectionViews.{ConnectionRepresents, ReceivedBy, has_ended_in, waiting_for}
-use Rattle.httpedge.specs.declared.event.Change.TheVariants as change
+use Rattle.httpedge.specs.ConnectionViews.{ConnectionRepresents, ReceivesRepresentedBy, has_ended_in, waiting_for}
+use Rattle.httpedge.specs.declared.event.ConnectionInput.TheVariants as change
 use Rattle.httpedge.specs.SharedViews.{IsTurnFrom, SharedRepresents}
 use Rattle.httpedge.specs.Steps.{connection_after, machine_after}
 use Rattle.httpedge.specs.declared.shared.CachedTurn.{CachedTurn}
@@ -23,7 +23,7 @@ wrong e = cc
 
 -- bytes make nothing of one that is over
 pub received_over : (types : List ServedShape) (m : History) (last_tick : ℕ) (c : Connection) (st : Phase) (bytes : List ℕ) (d : conns.Connection) (api : Api) → is_open st ≡ false → ConnectionRepresents types d c
-    → ApiRepresents api types m → ReceivedBy types m last_tick c st bytes d api
+    → ApiRepresents api types m → ReceivesRepresentedBy types m last_tick c st bytes d api
 received_over types m last_tick c (waiting prefix) bytes d api closed holds represents = absurd (wrong (sym closed))
 received_over types m last_tick c (watching w) bytes d api closed holds represents = absurd (wrong (sym closed))
 received_over types m last_tick c ended bytes d api closed holds represents = (holds, represents)
@@ -39,7 +39,7 @@ later types m last_tick prefix bytes (accepted call) = refl
 pub serves : (shared : Shared) (types : List ServedShape) (m : History) → shared.last ≡ None → ApiRepresents shared.api types m → SharedRepresents shared types m
 serves shared types m none represents = (represents, subst (λ (o : Option CachedTurn). IfSome o (IsTurnFrom m)) (sym none) tt)
 
-pub received_makes : (types : List ServedShape) (m : History) (last_tick : ℕ) (c : Connection) (st : Phase) (bytes : List ℕ) (d : conns.Connection) (shared : Shared) → shared.last ≡ None → ReceivedBy types m last_tick c st bytes d shared.api
+pub received_makes : (types : List ServedShape) (m : History) (last_tick : ℕ) (c : Connection) (st : Phase) (bytes : List ℕ) (d : conns.Connection) (shared : Shared) → shared.last ≡ None → ReceivesRepresentedBy types m last_tick c st bytes d shared.api
     → (c' : Connection) × Receives types m last_tick c st bytes c' shared × ConnectionRepresents types d c'
 received_makes types m last_tick c (waiting prefix) bytes d shared none (is, (decision, asks, holds, represents)) = (
   connection_after types m last_tick c (prefix ++ bytes) decision,

@@ -22,7 +22,7 @@ use Rattle.api_types.proofs.Keeping.{fields_stay}
 use Rattle.history.specs.History.{History, last_revision, current_objects}
 use Rattle.api_request.specs.Admit.{Parts, RequestInfo, admitted, has_status, kind_in, kind_with, parts_by, place_admitted, place_by, place_in, place_of, routes}
 use Rattle.api_request.specs.Calls.{Denied, Target}
-use Rattle.verbs.specs.Retyping.{RetypeRefusal, changed_objects, if_declared, if_compatible, if_left, not_lawful, not_types, retyping, too_few_revisions}
+use Rattle.verbs.specs.Retyping.{RetypeRefusal, changed_objects, if_declared, if_compatible, if_revisions_left, not_lawful, not_types, retyping, too_few_revisions}
 use Rattle.httpedge.specs.SharedViews.{SharedRepresents}
 use Rattle.httpedge.specs.declared.shared.Shared.{Shared}
 use Rattle.api_request.specs.declared.resource.Resource.{Resource}
@@ -203,7 +203,7 @@ left_lawful true us others is = same_types us others is
 left_lawful false us others is = isnt_done too_few_revisions others is
 
 change_lawful : (types us others : List ServedShape) (m : History) (b : Bool) → types_may_become types us ≡ b
-    → cond b (if_left (m.current + length (changed_objects types us (current_objects m))) us) (Err not_lawful) ≡ Ok others → types_may_become types others ≡ true
+    → cond b (if_revisions_left (m.current + length (changed_objects types us (current_objects m))) us) (Err not_lawful) ≡ Ok others → types_may_become types others ≡ true
 change_lawful types us others m true lawful is =
     subst (λ ts. types_may_become types ts ≡ true) (left_lawful (nat_le (m.current + length (changed_objects types us (current_objects m))) last_revision) us others is) lawful
 change_lawful types us others m false lawful is = isnt_done not_lawful others is

@@ -13,7 +13,7 @@ use Rattle.std.proofs.lemmas.Bool.{le-leb, leb-true}
 use Rattle.std.proofs.lemmas.Bool.Decides.{leb_tells}
 use Rattle.std.proofs.lemmas.List.Elements.{All-head, All-tail}
 use Rattle.std.proofs.lemmas.Map.Views.{All-found}
-use Rattle.httpedge.specs.IdViews.{AreApart, IsAfter, IsBefore, Ranges, covers, first_with, is_in, is_within}
+use Rattle.httpedge.specs.IdViews.{AreApart, IsAfter, IsBefore, HasRange, covers, first_with, is_in, is_within}
 
 -- ---- numbers that are the same, or not
 
@@ -85,12 +85,12 @@ found q first last (e ∷ es) at low high = go (eq_by_cmp nat_cmp first e.0) (ti
         (within q e.0 e.1 (subst (λ (k : ℕ). k ≤ q) (same refl) low) (subst (λ (k : ℕ). q ≤ k) (sym (some_of here)) high))
     go false same there rest = ap (λ (b : Bool). is_within q e || b) (rest there) ∙ later (is_within q e)
 
-in_ranges : (m : BTreeMap ℕ ℕ) (q first last : ℕ) → Ranges m first last → first ≤ q → q ≤ last → is_in m q ≡ true
+in_ranges : (m : BTreeMap ℕ ℕ) (q first last : ℕ) → HasRange m first last → first ≤ q → q ≤ last → is_in m q ≡ true
 in_ranges m q first last at low high = found q first last m.entries at low high
 
 -- the range that has an id
 abbrev pub RangeOf : BTreeMap ℕ ℕ → ℕ → Type 0
-RangeOf m q = (first : ℕ) × (last : ℕ) × Ranges m first last × (first ≤ q) × (q ≤ last)
+RangeOf m q = (first : ℕ) × (last : ℕ) × HasRange m first last × (first ≤ q) × (q ≤ last)
 
 one_of : (m : BTreeMap ℕ ℕ) (q : ℕ) (es : List (ℕ × ℕ)) → All (λ e. get nat_cmp m e.0 ≡ Some e.1) es → list_any (is_within q) es ≡ true → RangeOf m q
 one_of m q [] all has = absurd (wrong has)
@@ -105,7 +105,7 @@ one_of m q (e ∷ es) all has = go (is_within q e) refl has (λ there. one_of m 
 range_of : (m : BTreeMap ℕ ℕ) (q : ℕ) → IsOrdered nat_cmp m → is_in m q ≡ true → RangeOf m q
 range_of m q ordered has = one_of m q m.entries (All-found nat_cmp_total m ordered) has
 
-same_last : (m : BTreeMap ℕ ℕ) (f g l k : ℕ) → Ranges m f l → Ranges m g k → f ≡ g → l ≡ k
+same_last : (m : BTreeMap ℕ ℕ) (f g l k : ℕ) → HasRange m f l → HasRange m g k → f ≡ g → l ≡ k
 same_last m f g l k one other same = some_of (sym one ∙ ap (get nat_cmp m) same ∙ other)
 
 -- ---- what is found
@@ -138,22 +138,22 @@ already m id has q = go (eq_by_cmp nat_cmp id q) (tied_same id q)
 -- where the range with the new id begins: at the id, or where one ended just before it
 abbrev pub BeginsAt : BTreeMap ℕ ℕ → ℕ → ℕ → Option ℕ → Type 0
 BeginsAt m id first None = first ≡ id
-BeginsAt m id first (Some end) = Ranges m first end × (end + 1 ≡ id)
+BeginsAt m id first (Some end) = HasRange m first end × (end + 1 ≡ id)
 
 -- where it ends: at the id, or where one ends that began just after it
 abbrev pub EndsAt : BTreeMap ℕ ℕ → ℕ → ℕ → Bool → Type 0
 EndsAt m id last false = last ≡ id
-EndsAt m id last true = Ranges m (id + 1) last
+EndsAt m id last true = HasRange m (id + 1) last
 
 -- the id is in none of the ranges old; in those of new one is from first to last, and has it
 pub record Joins (old new : BTreeMap ℕ ℕ) (id first last : ℕ) (is_next : Bool) : Type 0 where
   pub apart : AreApart old
-  pub free : (f l : ℕ) → Ranges old f l → f ≤ id → l < id
-  pub greatest : (f l : ℕ) → Ranges old f l → f ≤ id → f ≤ first
+  pub free : (f l : ℕ) → HasRange old f l → f ≤ id → l < id
+  pub greatest : (f l : ℕ) → HasRange old f l → f ≤ id → f ≤ first
   pub begins : (end : Option ℕ) × BeginsAt old id first end
   pub ends : EndsAt old id last is_next
-  pub here : Ranges new first last
-  pub next_gone : (l : ℕ) → is_next ≡ true → Ranges new (id + 1) l → ⊥
+  pub here : HasRange new first last
+  pub next_gone : (l : ℕ) → is_next ≡ true → HasRange new (id + 1) l → ⊥
   pub others : (f : ℕ) → (f ≡ first → ⊥) → (is_next ≡ true → f ≡ id + 1 → ⊥) → get nat_cmp new f ≡ get nat_cmp old f
 
 module _ (old new : BTreeMap ℕ ℕ) (id first last : ℕ) (is_next : Bool) (j : Joins old new id first last is_next) where
@@ -172,8 +172,8 @@ module _ (old new : BTreeMap ℕ ℕ) (id first last : ℕ) (is_next : Bool) (j 
       go true at = let low : id + 1 ≤ last = j.apart.forward (id + 1) last at in omega (arith, low)
 
   -- a range of the new ones other than that with the id is an old one
-  was_there : (f l : ℕ) → (f ≡ first → ⊥) → Ranges new f l → Ranges old f l
-  was_there f l other at = sym (j.others f other (λ is same. j.next_gone l is (subst (λ (k : ℕ). Ranges new k l) same at))) ∙ at
+  was_there : (f l : ℕ) → (f ≡ first → ⊥) → HasRange new f l → HasRange old f l
+  was_there f l other at = sym (j.others f other (λ is same. j.next_gone l is (subst (λ (k : ℕ). HasRange new k l) same at))) ∙ at
 
   old_has : (q : ℕ) → (q ≡ id → ⊥) → RangeOf new q → is_in old q ≡ true
   old_has q apart (f, l, at, low, high) = by_same f first
@@ -201,7 +201,7 @@ module _ (old new : BTreeMap ℕ ℕ) (id first last : ℕ) (is_next : Bool) (j 
     where
       joined : (b : Bool) → is_next ≡ b → (f ≡ first → ⊥) → f ≡ id + 1 → is_in new q ≡ true
       joined true is other next =
-          let ends : Ranges old (id + 1) last = subst (EndsAt old id last) is j.ends in
+          let ends : HasRange old (id + 1) last = subst (EndsAt old id last) is j.ends in
           let same : l ≡ last = same_last old f (id + 1) l last at ends next in
           let begins : first ≤ id = first_low in
           in_ranges new q first last j.here (omega (arith, begins, next, low)) (omega (arith, same, high))
@@ -223,7 +223,7 @@ module _ (old new : BTreeMap ℕ ℕ) (id first last : ℕ) (is_next : Bool) (j 
   joined_apart : AreApart new
   joined_apart = record { forward = forward; apart = apart }
     where
-      forward : (f l : ℕ) → Ranges new f l → f ≤ l
+      forward : (f l : ℕ) → HasRange new f l → f ≤ l
       forward f l at = by_same f first
           (λ same.
           let is : l ≡ last = same_last new f first l last at j.here same in
@@ -233,30 +233,30 @@ module _ (old new : BTreeMap ℕ ℕ) (id first last : ℕ) (is_next : Bool) (j 
           (λ other. j.apart.forward f l (was_there f l other at))
 
       -- one behind that with the id
-      behind : (g k : ℕ) → Ranges old g k → first < g → (b : Bool) → is_next ≡ b → EndsAt old id last b → (b ≡ true → g ≡ id + 1 → ⊥) → last < g
+      behind : (g k : ℕ) → HasRange old g k → first < g → (b : Bool) → is_next ≡ b → EndsAt old id last b → (b ≡ true → g ≡ id + 1 → ⊥) → last < g
       behind g k at later false is ends gone = ⊎_elim (λ under. absurd (let low : g ≤ first = j.greatest g k at under.1 in omega (arith, low, later))) (λ over. omega (arith, ends, over.1)) (leb_tells g id)
       behind g k at later true is ends gone = ⊎_elim (λ under. absurd (let low : g ≤ first = j.greatest g k at under.1 in omega (arith, low, later)))
           (λ over. j.apart.apart (id + 1) last g k ends at (let apart : g ≡ id + 1 → ⊥ = gone refl in omega (arith, over.1, apart))) (leb_tells g id)
 
       -- one before that with the id
-      ahead : (f l : ℕ) → Ranges old f l → f < first → (end : Option ℕ) → BeginsAt old id first end → l < first
+      ahead : (f l : ℕ) → HasRange old f l → f < first → (end : Option ℕ) → BeginsAt old id first end → l < first
       ahead f l at less None is = let low : l < id = j.free f l at (omega (arith, is, less)) in omega (arith, low, is)
       ahead f l at less (Some end) (began, next) = j.apart.apart f l first end at began less
 
-      apart : (f l g k : ℕ) → Ranges new f l → Ranges new g k → f < g → l < g
+      apart : (f l g k : ℕ) → HasRange new f l → HasRange new g k → f < g → l < g
       apart f l g k one other less = by_same f first
           (λ same.
           let is : l ≡ last = same_last new f first l last one j.here same in
           let later : first < g = omega (arith, same, less) in
           let apart : g ≡ first → ⊥ = λ s. omega (arith, s, later) in
-          let over : last < g = behind g k (was_there g k apart other) later is_next refl j.ends (λ next at. j.next_gone k next (subst (λ (n : ℕ). Ranges new n k) at other)) in
+          let over : last < g = behind g k (was_there g k apart other) later is_next refl j.ends (λ next at. j.next_gone k next (subst (λ (n : ℕ). HasRange new n k) at other)) in
           omega (arith, is, over))
           (λ apart. by_same g first
           (λ same. subst (λ (n : ℕ). l < n) (sym same) (ahead f l (was_there f l apart one) (omega (arith, same, less)) j.begins.0 j.begins.1))
           (λ off. j.apart.apart f l g k (was_there f l apart one) (was_there g k off other) less))
 
 -- where a range begins, with what was found before an id that is in none
-begins_at : (m : BTreeMap ℕ ℕ) (id : ℕ) (o : Option (ℕ × ℕ)) → IsBefore m id o → ((f l : ℕ) → Ranges m f l → f ≤ id → l < id) → (end : Option ℕ) × BeginsAt m id (first_with o id) end
+begins_at : (m : BTreeMap ℕ ℕ) (id : ℕ) (o : Option (ℕ × ℕ)) → IsBefore m id o → ((f l : ℕ) → HasRange m f l → f ≤ id → l < id) → (end : Option ℕ) × BeginsAt m id (first_with o id) end
 begins_at m id None before free = (None, refl)
 begins_at m id (Some r) (at, low, greatest) free = go (nat_le (id - 1) r.1) refl
   where
@@ -267,7 +267,7 @@ begins_at m id (Some r) (at, low, greatest) free = go (nat_le (id - 1) r.1) refl
         (Some r.1, (at, omega (arith, less, near)))
     go false is = (None, refl)
 
-greatest_is : (m : BTreeMap ℕ ℕ) (id : ℕ) (o : Option (ℕ × ℕ)) → IsBefore m id o → (f l : ℕ) → Ranges m f l → f ≤ id → f ≤ first_with o id
+greatest_is : (m : BTreeMap ℕ ℕ) (id : ℕ) (o : Option (ℕ × ℕ)) → IsBefore m id o → (f l : ℕ) → HasRange m f l → f ≤ id → f ≤ first_with o id
 greatest_is m id None before f l at low = low
 greatest_is m id (Some r) (there, under, greatest) f l at low = go (nat_le (id - 1) r.1)
   where
@@ -275,7 +275,7 @@ greatest_is m id (Some r) (there, under, greatest) f l at low = go (nat_le (id -
     go true = greatest f l at low
     go false = low
 
-free_of : (m : BTreeMap ℕ ℕ) (id : ℕ) (o : Option (ℕ × ℕ)) → IsOrdered nat_cmp m → AreApart m → IsBefore m id o → covers o id ≡ false → (f l : ℕ) → Ranges m f l → f ≤ id → l < id
+free_of : (m : BTreeMap ℕ ℕ) (id : ℕ) (o : Option (ℕ × ℕ)) → IsOrdered nat_cmp m → AreApart m → IsBefore m id o → covers o id ≡ false → (f l : ℕ) → HasRange m f l → f ≤ id → l < id
 free_of m id o ordered apart before none f l at low = ⊎_elim
     (λ in_it. absurd (wrong (sym (sym (covers_is m id o ordered apart before) ∙ none) ∙ in_ranges m id f l at low in_it.1)))
     (λ past. past.1) (leb_tells id l)
@@ -297,7 +297,7 @@ module _ (old : BTreeMap ℕ ℕ) (id : ℕ) (o : Option (ℕ × ℕ)) (ordered 
     others = λ f other next. put_at new (first_with o id) id f put other;
   }
 
-  with_next : (mid new : BTreeMap ℕ ℕ) (next last : ℕ) → next ≡ id + 1 → Ranges old next last
+  with_next : (mid new : BTreeMap ℕ ℕ) (next last : ℕ) → next ≡ id + 1 → HasRange old next last
       → ((q : ℕ) → get nat_cmp mid q ≡ cond (is_at (nat_cmp (first_with o id)) q) (Some last) (get nat_cmp old q))
       → ((q : ℕ) → get nat_cmp new q ≡ cond (is_at (nat_cmp next) q) None (get nat_cmp mid q)) → Joins old new id (first_with o id) last true
   with_next mid new next last is at put took =
@@ -308,7 +308,7 @@ module _ (old : BTreeMap ℕ ℕ) (id : ℕ) (o : Option (ℕ × ℕ)) (ordered 
         free = free;
         greatest = greatest_is old id o before;
         begins = begins;
-        ends = subst (λ (n : ℕ). Ranges old n last) is at;
+        ends = subst (λ (n : ℕ). HasRange old n last) is at;
         here = kept first (λ same. low begins.0 begins.1 (same ∙ is)) ∙ put first ∙ ap (λ (b : Bool). cond b (Some last) (get nat_cmp old first)) (itself first);
         next_gone = λ l yes there. none_some (sym (gone (id + 1) (sym is)) ∙ there);
         others = λ f other off. kept f (λ same. off refl (same ∙ is)) ∙ put_at mid first last f put other;

@@ -23,15 +23,15 @@ use Rattle.verbs.specs.declared.fault.Fault.TheVariants as failed
 use Rattle.httpedge.specs.declared.connection.Connection as conns
 use Rattle.httpedge.specs.declared.connection.Connection.TheVariants as conn
 use Rattle.httpedge.specs.declared.connections.Connections.{Connections as Kept}
-use Rattle.httpedge.specs.declared.event.Change as changes
-use Rattle.httpedge.specs.declared.event.Change.TheVariants as change
+use Rattle.httpedge.specs.declared.event.ConnectionInput as changes
+use Rattle.httpedge.specs.declared.event.ConnectionInput.TheVariants as change
 use Rattle.httpedge.specs.declared.fault.HubFault.{HubFault}
 use Rattle.httpedge.specs.declared.out.Out.{Out}
 use Rattle.httpedge.specs.declared.watching.Watch.{Watch as TheWatch}
 use Rattle.httpedge.specs.ChangeViews.{Changes, Makes, Receives, event_on, takes_memory_on}
-use Rattle.httpedge.specs.Connections.{Connection, Connections, Phase, waiting, watching, ended, gone, has_ended, is_new, is_open, is_waiting, is_watching, left_out, open_on, out_of, with_phase, with_taken}
+use Rattle.httpedge.specs.Connections.{Connection, Connections, Phase, waiting, watching, ended, gone, has_ended, is_new, is_open, is_waiting, is_watching, untaken_in, open_on, out_of, with_phase, with_taken}
 use Rattle.requests.specs.Decision.{undecided}
-use Rattle.httpedge.specs.ConnectionViews.{BecomesAt, ConnectionRepresents, ConnectionRepresentsAt, IsAt, IsFresh, IsSame, Opens, PutAt, PartsRepresent, found, has_ended_in, held_or, is_above, is_open_in, is_waiting_in, is_watching_in, left, out_in, over_by}
+use Rattle.httpedge.specs.ConnectionViews.{BecomesAt, ConnectionRepresents, ConnectionRepresentsAt, IsAt, IsFresh, IsSame, Opens, PutAt, PartsRepresent, found, has_ended_in, held_or, is_above, is_open_in, is_waiting_in, is_watching_in, left, out_in, closed_by}
 use Rattle.httpedge.specs.FaultViews.{hub_fault_of}
 use Rattle.httpedge.specs.HubViews.{StepsOrRefuses, HubRepresents, Outcome, outcome_of, refusal_in}
 use Rattle.httpedge.specs.HubViews as outcome
@@ -95,8 +95,8 @@ same_ended types (conn.Closed had_ended) c (closed, had, none) = sym had
 pub same_out : (types : List ServedShape) (d : conns.Connection) (c : Connection) → ConnectionRepresents types d c → out_in d ≡ out_of c
 same_out types (conn.Head prefix) c is = sym (ap out_of is)
 same_out types (conn.Body p) c (prefix, is, awaits) = sym (ap out_of is)
-same_out types (conn.Watch w out) c (is, rest, low) = sym rest ∙ sym (ap (λ (st : Phase). left_out st (drop c.taken c.written)) is)
-same_out types (conn.Ended out) c (is, rest) = sym rest ∙ sym (ap (λ (st : Phase). left_out st (drop c.taken c.written)) is)
+same_out types (conn.Watch w out) c (is, rest, low) = sym rest ∙ sym (ap (λ (st : Phase). untaken_in st (drop c.taken c.written)) is)
+same_out types (conn.Ended out) c (is, rest) = sym rest ∙ sym (ap (λ (st : Phase). untaken_in st (drop c.taken c.written)) is)
 same_out types (conn.Closed had_ended) c (closed, had, none) = sym none
 
 some_of : {A : Type 0} {x y : A} → Some x ≡ Some y → x ≡ y
@@ -190,7 +190,7 @@ start_in types m shared k represents none shut had cut first = record {
 }
   where
     nothing : (q : ℕ) → found k q ≡ None
-    nothing q = ap (λ (es : List (ℕ × conns.Connection)). held_or (lookup (is_at (nat_cmp q)) es) (over_by (is_in k.ended.ranges q) (is_in k.cut.ranges q))) none ∙ ap₂ over_by (had q) (cut q)
+    nothing q = ap (λ (es : List (ℕ × conns.Connection)). held_or (lookup (is_at (nat_cmp q)) es) (closed_by (is_in k.ended.ranges q) (is_in k.cut.ranges q))) none ∙ ap₂ closed_by (had q) (cut q)
 
 -- the code holds a state to which the event leads
 abbrev pub Done : State → Event → Shared → Kept → Type 0
@@ -373,7 +373,7 @@ some_lines : (max : ℕ) (b : Bool) → (max == 0) ≡ b → (change.Lines max �
 some_lines max true is isnt = absurd (isnt (ap change.Lines (eqb-true max 0 is)))
 some_lines max false is isnt = is
 
-abbrev lines_of : changes.Change → ℕ
+abbrev lines_of : changes.ConnectionInput → ℕ
 lines_of (change.Bytes bytes) = 0
 lines_of (change.Lines max) = max
 lines_of change.Gone = 0
@@ -387,10 +387,10 @@ bytes_arent bytes none = cc
 pub gone_isnt : change.Gone ≡ change.Lines 0 → ⊥
 gone_isnt none = cc
 
-abbrev pub IsNone : changes.Change → Type 0
+abbrev pub IsNone : changes.ConnectionInput → Type 0
 IsNone what = what ≡ change.Lines 0
 
-changes_done : (s : State) (what : changes.Change) (id : ℕ) (shared shared' : Shared) (old new : Kept) (c c' : Connection) → (IsNone what → ⊥) → PartsRepresent shared old s → fin.get s.connections id ≡ Some c
+changes_done : (s : State) (what : changes.ConnectionInput) (id : ℕ) (shared shared' : Shared) (old new : Kept) (c c' : Connection) → (IsNone what → ⊥) → PartsRepresent shared old s → fin.get s.connections id ≡ Some c
     → Makes s.types s.machine s.last_tick what c c' shared' → BecomesAt s.types (is_open c'.phase) c' id old new → Done s (event_on id what) shared' new
 changes_done s (change.Bytes bytes) id shared shared' old new c c' some held got makes becomes = comes_done s id bytes.now shared shared' old new c c' c.phase held got refl makes becomes
 changes_done s (change.Lines max) id shared shared' old new c c' some held got (is, serves) becomes =
@@ -398,7 +398,7 @@ changes_done s (change.Lines max) id shared shared' old new c c' some held got (
 changes_done s change.Gone id shared shared' old new c c' some held got (is, serves) becomes = goes_done s id shared shared' old new c c' held got is serves becomes
 
 -- by whether there is a connection of the id
-by_known : (s : State) (what : changes.Change) (id : ℕ) (o : Option Connection) → (IsNone what → ⊥) → fin.get s.connections id ≡ o → refusal s (event_on id what) ≡ cond (is_some o) None (Some unknown_id)
+by_known : (s : State) (what : changes.ConnectionInput) (id : ℕ) (o : Option Connection) → (IsNone what → ⊥) → fin.get s.connections id ≡ o → refusal s (event_on id what) ≡ cond (is_some o) None (Some unknown_id)
 by_known s (change.Bytes bytes) id o some got = ap (λ (p : Option Connection). cond (is_some p) None (Some unknown_id)) got
 by_known s (change.Lines max) id o some got =
     ap (λ (b : Bool). cond (is_some (fin.get s.connections id)) (cond b (Some no_lines) None) (Some unknown_id)) (some_lines max (max == 0) refl some)
@@ -444,7 +444,7 @@ dies s id shared shared' old new c held serves got was_open becomes =
       refl,
     )
 
-changes_run_out : (s : State) (what : changes.Change) (id : ℕ) (shared shared' : Shared) (old new : Kept) (c : Connection) → (IsNone what → ⊥) → PartsRepresent shared old s → fin.get s.connections id ≡ Some c
+changes_run_out : (s : State) (what : changes.ConnectionInput) (id : ℕ) (shared shared' : Shared) (old new : Kept) (c : Connection) → (IsNone what → ⊥) → PartsRepresent shared old s → fin.get s.connections id ≡ Some c
     → takes_memory_on what c.phase ≡ true → SharedRepresents shared' s.types s.machine → BecomesAt s.types false (with_phase c ended) id old new → OutOfMemory s (event_on id what) shared' new
 changes_run_out s (change.Bytes bytes) id shared shared' old new c some held got takes serves becomes =
     let died = dies s id shared shared' old new c held serves got (waiting_open c.phase takes) becomes in (
@@ -482,7 +482,7 @@ none_refused e = cc
 abbrev pub with_parts : Hub → Shared → Kept → Hub
 with_parts hub shared k = record { alloc = hub.alloc; shared = shared; connections = k; last_tick = hub.last_tick }
 
-pub changes_handled : (hub : Hub) (what : changes.Change) (id : ℕ) (shared : Shared) (new : Kept) (o : Outcome) → (IsNone what → ⊥)
+pub changes_handled : (hub : Hub) (what : changes.ConnectionInput) (id : ℕ) (shared : Shared) (new : Kept) (o : Outcome) → (IsNone what → ⊥)
     → ((types : List ServedShape) (m : History) (d : conns.Connection) (c : Connection) → SharedRepresents hub.shared types m → IsAt id d hub.connections → ConnectionRepresents types d c
     → Changes types m hub.last_tick what id c hub.connections new shared o)
     → (found hub.connections id ≡ None → (o ≡ outcome.refused unknown_id) × (new ≡ hub.connections) × (shared ≡ hub.shared)) → (is_some (found hub.connections id) ≡ true → refusal_in o ≡ None)
@@ -605,12 +605,12 @@ failed_handled hub new e o is handles = subst (λ (p : Outcome). StepsOrRefuses 
 
 -- ---- bytes that are taken
 
-taken_left : (c : Connection) (n : ℕ) → left_out c.phase (drop c.taken c.written) ≡ drop c.taken c.written → drop (with_taken c n).taken c.written ≡ drop n (drop c.taken c.written)
+taken_left : (c : Connection) (n : ℕ) → untaken_in c.phase (drop c.taken c.written) ≡ drop c.taken c.written → drop (with_taken c n).taken c.written ≡ drop n (drop c.taken c.written)
 taken_left c n all = ap (λ (out : List ℕ). drop (c.taken + min n (length out)) c.written) all ∙ left_after c.taken n c.written
 
 pub takes_ended : (types : List ServedShape) (out rest : Out) (c : Connection) (n : ℕ) → left rest ≡ drop n (left out) → ConnectionRepresents types (conn.Ended out) c → ConnectionRepresents types (conn.Ended rest) (with_taken c n)
 takes_ended types out rest c n taken (represents, is) =
-    (represents, taken_left c n (ap (λ (st : Phase). left_out st (drop c.taken c.written)) represents) ∙ ap (drop n) is ∙ sym taken)
+    (represents, taken_left c n (ap (λ (st : Phase). untaken_in st (drop c.taken c.written)) represents) ∙ ap (drop n) is ∙ sym taken)
 
 taken_low : (taken n long left : ℕ) → left ≡ long - taken → taken ≤ long → taken + min n left ≤ long
 taken_low taken n long left is low = omega (arith, is, low)
@@ -618,7 +618,7 @@ taken_low taken n long left is low = omega (arith, is, low)
 pub takes_watching : (types : List ServedShape) (w : TheWatch) (out rest : Out) (c : Connection) (n : ℕ) → left rest ≡ drop n (left out) → ConnectionRepresents types (conn.Watch w out) c
     → ConnectionRepresents types (conn.Watch w rest) (with_taken c n)
 takes_watching types w out rest c n taken (represents, is, low) =
-    let all : left_out c.phase (drop c.taken c.written) ≡ drop c.taken c.written = ap (λ (st : Phase). left_out st (drop c.taken c.written)) represents in
+    let all : untaken_in c.phase (drop c.taken c.written) ≡ drop c.taken c.written = ap (λ (st : Phase). untaken_in st (drop c.taken c.written)) represents in
     (represents, taken_left c n all ∙ ap (drop n) is ∙ sym taken, taken_low c.taken n (length c.written) (length (out_of c)) (ap length all ∙ length-drop c.taken c.written) low)
 
 nothing_taken : (c : Connection) (n : ℕ) → out_of c ≡ [] → out_of (with_taken c n) ≡ []

@@ -3,7 +3,7 @@ use Rattle.std.proofs.Common.{arith, ◌≡◌, ℕ, ◌+◌, List, [], length, 
 use Rattle.std.specs.Prelude.{option_map, unwrap_or}
 use Rattle.std.specs.FinMap as fin
 use Rattle.std.proofs.lemmas.List.{drop-drop, drop_all, drop_min}
-use Rattle.httpedge.specs.Connections.{Connection, Phase, waiting, watching, ended, gone, left_out, out_of, out_on, with_taken}
+use Rattle.httpedge.specs.Connections.{Connection, Phase, waiting, watching, ended, gone, untaken_in, out_of, out_on, with_taken}
 use Rattle.httpedge.specs.Steps.{State, by_connection, with_bytes_taken, with_connection}
 use Rattle.httpedge.proofs.Connected.{put_there}
 
@@ -14,7 +14,7 @@ none_left : (n : ℕ) → drop {A = ℕ} n [] ≡ []
 none_left n = drop_all n [] (omega arith)
 
 out_by : (st : Phase) (taken n : ℕ) (written : List ℕ)
-    → left_out st (drop (taken + min n (length (left_out st (drop taken written)))) written) ≡ drop n (left_out st (drop taken written))
+    → untaken_in st (drop (taken + min n (length (untaken_in st (drop taken written)))) written) ≡ drop n (untaken_in st (drop taken written))
 out_by (waiting prefix) taken n written = left_after taken n written
 out_by (watching w) taken n written = left_after taken n written
 out_by ended taken n written = left_after taken n written

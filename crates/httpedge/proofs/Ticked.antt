@@ -18,7 +18,7 @@ use Rattle.httpedge.specs.declared.connection.Connection as conns
 use Rattle.httpedge.specs.declared.connections.Connections.{Connections as Kept}
 use Rattle.httpedge.specs.Connections.{Connection, Connections, Phase, waiting, watching, ended, gone, each, is_new, is_open, is_watching, open_on}
 use Rattle.requests.specs.Decision.{undecided}
-use Rattle.httpedge.specs.ConnectionViews.{ConnectionRepresents, ConnectionRepresentsAt, IsApart, Lists, PutAt, PartsRepresent, found, found_in, held_or, is_above, is_open_in, over_by}
+use Rattle.httpedge.specs.ConnectionViews.{ConnectionRepresents, ConnectionRepresentsAt, IsApart, Lists, PutAt, PartsRepresent, found, found_in, held_or, is_above, is_open_in, closed_by}
 use Rattle.httpedge.specs.IdViews.{is_in}
 use Rattle.httpedge.specs.Runs.{Steps}
 use Rattle.httpedge.specs.Steps.{Refusal, State, tick_back, ticks, killed_or_ticked, refusal, unless_refused, with_tick, with_turn, writes_at, RunsOutOfMemory}
@@ -54,14 +54,14 @@ no_turn types ms b (Some c) is = ap (λ (d : Connection). Some d) (dead_idle typ
 
 -- ---- the connection of an id
 
-closed_over : (types : List ServedShape) (a b : Bool) (c : Connection) → ConnectionRepresentsAt types (over_by a b) (Some c) → is_open c.phase ≡ false
+closed_over : (types : List ServedShape) (a b : Bool) (c : Connection) → ConnectionRepresentsAt types (closed_by a b) (Some c) → is_open c.phase ≡ false
 closed_over types true b c holds = holds.0
 closed_over types false true c holds = holds.0
 closed_over types false false c holds = absurd holds
 
 -- one that isn't held stays as it is
 over_ticks : (types : List ServedShape) (ms id : ℕ) (before : Connections) (held : Found) (a b : Bool) (o : Option Connection) → ConnectionsRepresent types held before → fin.get before id ≡ o
-    → ConnectionRepresentsAt types (over_by a b) o → ConnectionsRepresent types held (put_where o (killed_or_ticked types ms false) before id)
+    → ConnectionRepresentsAt types (closed_by a b) o → ConnectionsRepresent types held (put_where o (killed_or_ticked types ms false) before id)
 over_ticks types ms id before held a b None all got holds = all
 over_ticks types ms id before held a b (Some c) all got holds =
     let idle = dead_idle types ms false c (closed_watches c.phase (closed_over types a b c holds)) in
@@ -72,7 +72,7 @@ pub none_ticks : (types : List ServedShape) (ms id : ℕ) (before : Connections)
 none_ticks types ms id before held held' had_ended cut all at same = (
   over_ticks types ms id before (found_in held' had_ended cut) (had_ended id) (cut id) (fin.get before id)
       (subst (λ (h : BTreeMap ℕ conns.Connection). ConnectionsRepresent types (found_in h had_ended cut) before) (sym same) all) refl
-      (subst (λ (o : Option conns.Connection). ConnectionRepresentsAt types (held_or o (over_by (had_ended id) (cut id))) (fin.get before id)) at (all id)),
+      (subst (λ (o : Option conns.Connection). ConnectionRepresentsAt types (held_or o (closed_by (had_ended id) (cut id))) (fin.get before id)) at (all id)),
   λ is. absurd (wrong is),
 )
 
@@ -84,7 +84,7 @@ found_by false e o r = refl
 pub found_put : (held held' : BTreeMap ℕ conns.Connection) (had_ended cut : ℕ → Bool) (id : ℕ) (e : conns.Connection)
     → ((q : ℕ) → get nat_cmp held' q ≡ cond (eq_by_cmp nat_cmp id q) (Some e) (get nat_cmp held q)) → PutAt id e (found_in held had_ended cut) (found_in held' had_ended cut)
 found_put held held' had_ended cut id e put q =
-    ap (λ (o : Option conns.Connection). held_or o (over_by (had_ended q) (cut q))) (put q) ∙ found_by (eq_by_cmp nat_cmp id q) e (get nat_cmp held q) (over_by (had_ended q) (cut q))
+    ap (λ (o : Option conns.Connection). held_or o (closed_by (had_ended q) (cut q))) (put q) ∙ found_by (eq_by_cmp nat_cmp id q) e (get nat_cmp held q) (closed_by (had_ended q) (cut q))
 
 pub put_keys : (held held' : BTreeMap ℕ conns.Connection) (id : ℕ) (e : conns.Connection) → is_some (get nat_cmp held id) ≡ true
     → ((q : ℕ) → get nat_cmp held' q ≡ cond (eq_by_cmp nat_cmp id q) (Some e) (get nat_cmp held q)) → (q : ℕ) → is_some (get nat_cmp held' q) ≡ is_some (get nat_cmp held q)
@@ -268,7 +268,7 @@ abbrev open_held : BTreeMap ℕ conns.Connection → ℕ → Bool
 open_held held id = unwrap_or (option_map is_open_in (get nat_cmp held id)) false
 
 -- one that isn't held isn't open
-open_found : (o : Option conns.Connection) (a b : Bool) → unwrap_or (option_map is_open_in o) false ≡ unwrap_or (option_map is_open_in (held_or o (over_by a b))) false
+open_found : (o : Option conns.Connection) (a b : Bool) → unwrap_or (option_map is_open_in o) false ≡ unwrap_or (option_map is_open_in (held_or o (closed_by a b))) false
 open_found None true b = refl
 open_found None false true = refl
 open_found None false false = refl

@@ -7,7 +7,7 @@ use Rattle.std.specs.Ordering.{nat_cmp, eq_by_cmp}
 use Rattle.api_types.specs.TypesFile.{ServedShape}
 use Rattle.history.specs.History.{History}
 use Rattle.requests.specs.Asks.{CallDecision}
-use Rattle.httpedge.specs.Connections.{AllIsOut, Connection, Connections, IsUntaken, Phase, waiting, watching, ended, gone, each, has_gone, is_open, left_out, new_connection, out_of, out_on, with_phase, with_written, written_on}
+use Rattle.httpedge.specs.Connections.{AllIsOut, Connection, Connections, IsUntaken, Phase, waiting, watching, ended, gone, each, has_gone, is_open, untaken_in, new_connection, out_of, out_on, with_phase, with_written, written_on}
 use Rattle.requests.specs.Decision.{undecided, refused, accepted}
 use Rattle.requests.specs.Refusals.{as_denied, too_many_connections}
 use Rattle.httpedge.specs.Runs.{Follows, Action, KeepsOutput, Steps, happens, peer_goes, runs_out_of_memory, takes}
@@ -22,7 +22,7 @@ use Rattle.httpedge.proofs.OtherTypes.{same_connections}
 
 -- ---- one connection
 
-written_by : (st : Phase) (taken : ℕ) (written : List ℕ) → taken ≡ 0 → has_gone st ≡ false → left_out st (drop taken written) ≡ written
+written_by : (st : Phase) (taken : ℕ) (written : List ℕ) → taken ≡ 0 → has_gone st ≡ false → untaken_in st (drop taken written) ≡ written
 written_by (waiting prefix) taken written none stays = ap (λ (k : ℕ). drop k written) none
 written_by (watching w) taken written none stays = ap (λ (k : ℕ). drop k written) none
 written_by ended taken written none stays = ap (λ (k : ℕ). drop k written) none

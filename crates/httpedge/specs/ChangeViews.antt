@@ -7,8 +7,8 @@ use Rattle.httpedge.specs.SharedViews.{SharedRepresents}
 use Rattle.requests.specs.Asks.{CallDecision, Asks}
 use Rattle.httpedge.specs.declared.connection.Connection as conns
 use Rattle.httpedge.specs.declared.connections.Connections.{Connections as Kept}
-use Rattle.httpedge.specs.declared.event.Change as changes
-use Rattle.httpedge.specs.declared.event.Change.TheVariants as change
+use Rattle.httpedge.specs.declared.event.ConnectionInput as changes
+use Rattle.httpedge.specs.declared.event.ConnectionInput.TheVariants as change
 use Rattle.httpedge.specs.Connections.{Connection, Phase, waiting, ended, gone, has_ended, is_open, is_waiting, is_watching, with_phase}
 use Rattle.httpedge.specs.ConnectionViews.{BecomesAt, ConnectionRepresents}
 use Rattle.httpedge.specs.HubViews.{Outcome, done, refused, out_of_memory}
@@ -16,7 +16,7 @@ use Rattle.httpedge.specs.Steps.{Event, comes, goes, pumps, connection_after, ma
 use Rattle.httpedge.specs.Watches.{pumped}
 
 -- the event that changes the connection of an id so
-abbrev pub event_on : ℕ → changes.Change → Event
+abbrev pub event_on : ℕ → changes.ConnectionInput → Event
 event_on id (change.Bytes bytes) = comes id bytes.now
 event_on id (change.Lines max) = pumps id max
 event_on id change.Gone = goes id
@@ -28,23 +28,23 @@ Receives types m last_tick c (waiting prefix) bytes c' shared =
 Receives types m last_tick c _ bytes c' shared = (c' ≡ c) × SharedRepresents shared types m
 
 -- the change makes this connection of one
-abbrev pub Makes : List ServedShape → History → ℕ → changes.Change → Connection → Connection → Shared → Type 0
+abbrev pub Makes : List ServedShape → History → ℕ → changes.ConnectionInput → Connection → Connection → Shared → Type 0
 Makes types m last_tick (change.Bytes bytes) c c' shared = Receives types m last_tick c c.phase bytes.now c' shared
 Makes types m last_tick (change.Lines max) c c' shared = (c' ≡ with_turn (pumped m max) c) × SharedRepresents shared types m
 Makes types m last_tick change.Gone c c' shared = (c' ≡ with_phase c (gone (has_ended c.phase))) × SharedRepresents shared types m
 
 -- the same, where the code then holds it so
-abbrev pub MakesRepresented : List ServedShape → History → ℕ → changes.Change → Connection → conns.Connection → Shared → Type 0
+abbrev pub MakesRepresented : List ServedShape → History → ℕ → changes.ConnectionInput → Connection → conns.Connection → Shared → Type 0
 MakesRepresented types m last_tick what c d shared = (c' : Connection) × Makes types m last_tick what c c' shared × ConnectionRepresents types d c'
 
 -- it takes memory for one that stands so
-abbrev pub takes_memory_on : changes.Change → Phase → Bool
+abbrev pub takes_memory_on : changes.ConnectionInput → Phase → Bool
 takes_memory_on (change.Bytes bytes) st = is_waiting st
 takes_memory_on (change.Lines max) st = is_watching st
 takes_memory_on change.Gone st = false
 
 -- the same among all connections, by how the call ended
-abbrev pub Changes : List ServedShape → History → ℕ → changes.Change → ℕ → Connection → Kept → Kept → Shared → Outcome → Type 0
+abbrev pub Changes : List ServedShape → History → ℕ → changes.ConnectionInput → ℕ → Connection → Kept → Kept → Shared → Outcome → Type 0
 Changes types m last_tick what id c old new shared done =
     (c' : Connection) × Makes types m last_tick what c c' shared × BecomesAt types (is_open c'.phase) c' id old new
 Changes types m last_tick what id c old new shared (refused why) = ⊥

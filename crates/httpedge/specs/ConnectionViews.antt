@@ -86,12 +86,12 @@ Becomes types m last_tick bytes c api =
     (decision : CallDecision) × Asks types bytes decision × ConnectionRepresents types c (connection_after types m last_tick new_connection bytes decision) × ApiRepresents api types (machine_after types m decision)
 
 -- by how it stood
-abbrev pub ReceivedBy : List ServedShape → History → ℕ → Connection → Phase → List ℕ → conns.Connection → Api → Type 0
-ReceivedBy types m last_tick c (waiting prefix) bytes d api = (c ≡ waiting_for prefix) × Becomes types m last_tick (prefix ++ bytes) d api
-ReceivedBy types m last_tick c _ bytes d api = ConnectionRepresents types d c × ApiRepresents api types m
+abbrev pub ReceivesRepresentedBy : List ServedShape → History → ℕ → Connection → Phase → List ℕ → conns.Connection → Api → Type 0
+ReceivesRepresentedBy types m last_tick c (waiting prefix) bytes d api = (c ≡ waiting_for prefix) × Becomes types m last_tick (prefix ++ bytes) d api
+ReceivesRepresentedBy types m last_tick c _ bytes d api = ConnectionRepresents types d c × ApiRepresents api types m
 
-abbrev pub Received : List ServedShape → History → ℕ → Connection → List ℕ → conns.Connection → Api → Type 0
-Received types m last_tick c bytes d api = ReceivedBy types m last_tick c c.phase bytes d api
+abbrev pub ReceivesRepresented : List ServedShape → History → ℕ → Connection → List ℕ → conns.Connection → Api → Type 0
+ReceivesRepresented types m last_tick c bytes d api = ReceivesRepresentedBy types m last_tick c c.phase bytes d api
 
 -- ---- a watch's turn
 
@@ -117,13 +117,13 @@ is_above None id = true
 is_above (Some highest) id = nat_lt highest id
 
 -- whether one that isn't held had ended, by the ids that had ended and those that hadn't
-abbrev pub over_of : Bool → Bool → Option Bool
-over_of true cut = Some true
-over_of false true = Some false
-over_of false false = None
+abbrev pub had_ended_by_ids : Bool → Bool → Option Bool
+had_ended_by_ids true cut = Some true
+had_ended_by_ids false true = Some false
+had_ended_by_ids false false = None
 
-abbrev pub over_by : Bool → Bool → Option conns.Connection
-over_by had_ended cut = option_map (λ h. conn.Closed h) (over_of had_ended cut)
+abbrev pub closed_by : Bool → Bool → Option conns.Connection
+closed_by had_ended cut = option_map (λ h. conn.Closed h) (had_ended_by_ids had_ended cut)
 
 abbrev pub held_or : Option conns.Connection → Option conns.Connection → Option conns.Connection
 held_or None other = other
@@ -131,7 +131,7 @@ held_or (Some d) other = Some d
 
 -- the connection of an id
 abbrev pub found_in : BTreeMap ℕ conns.Connection → (ℕ → Bool) → (ℕ → Bool) → ℕ → Option conns.Connection
-found_in held had_ended cut id = held_or (get nat_cmp held id) (over_by (had_ended id) (cut id))
+found_in held had_ended cut id = held_or (get nat_cmp held id) (closed_by (had_ended id) (cut id))
 
 abbrev pub found : Kept → ℕ → Option conns.Connection
 found k = found_in k.held (is_in k.ended.ranges) (is_in k.cut.ranges)
@@ -159,15 +159,15 @@ abbrev pub PutAt : ℕ → conns.Connection → (ℕ → Option conns.Connection
 PutAt id d old new = (q : ℕ) → new q ≡ cond (eq_by_cmp nat_cmp id q) (Some d) (old q)
 
 -- an id is among those that are open if it was and still is
-abbrev pub Closes : ℕ → Bool → Kept → Kept → Type 0
-Closes id still old new = (q : ℕ) → contains nat_cmp new.open_ids q ≡ cond (eq_by_cmp nat_cmp id q) (contains nat_cmp old.open_ids q && still) (contains nat_cmp old.open_ids q)
+abbrev pub OpenIdsAfter : ℕ → Bool → Kept → Kept → Type 0
+OpenIdsAfter id still old new = (q : ℕ) → contains nat_cmp new.open_ids q ≡ cond (eq_by_cmp nat_cmp id q) (contains nat_cmp old.open_ids q && still) (contains nat_cmp old.open_ids q)
 
 -- what becomes of a connection by its id, and whether it is open if it was
 pub record BecomesAt (types : List ServedShape) (still : Bool) (c : Connection) (id : ℕ) (old new : Kept) : Type 0 where
   pub one : conns.Connection
   pub holds : ConnectionRepresents types one c
   pub put : PutAt id one (found old) (found new)
-  pub open_is : Closes id still old new
+  pub open_is : OpenIdsAfter id still old new
   pub highest : new.highest ≡ old.highest
   pub apart : IsApart new
 

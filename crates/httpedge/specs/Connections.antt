@@ -63,12 +63,12 @@ has_gone (gone had_ended) = true
 has_gone _ = false
 
 -- what was written and not taken; nothing where the peer has gone
-abbrev pub left_out : Phase → List ℕ → List ℕ
-left_out (gone had_ended) out = []
-left_out _ out = out
+abbrev pub untaken_in : Phase → List ℕ → List ℕ
+untaken_in (gone had_ended) out = []
+untaken_in _ out = out
 
 abbrev pub out_of : Connection → List ℕ
-out_of c = left_out c.phase (drop c.taken c.written)
+out_of c = untaken_in c.phase (drop c.taken c.written)
 
 -- the next n bytes of these are taken, at most all
 abbrev pub with_taken : Connection → ℕ → Connection

@@ -12,25 +12,25 @@ abbrev pub is_in : BTreeMap ℕ ℕ → ℕ → Bool
 is_in ranges q = list_any (is_within q) ranges.entries
 
 -- one of them is from here to there
-abbrev pub Ranges : BTreeMap ℕ ℕ → ℕ → ℕ → Type 0
-Ranges ranges first last = get nat_cmp ranges first ≡ Some last
+abbrev pub HasRange : BTreeMap ℕ ℕ → ℕ → ℕ → Type 0
+HasRange ranges first last = get nat_cmp ranges first ≡ Some last
 
 -- none ends before it begins, and none begins within another
 pub record AreApart (ranges : BTreeMap ℕ ℕ) : Type 0 where
-  pub forward : (first last : ℕ) → Ranges ranges first last → first ≤ last
-  pub apart : (first last next end : ℕ) → Ranges ranges first last → Ranges ranges next end → first < next → last < next
+  pub forward : (first last : ℕ) → HasRange ranges first last → first ≤ last
+  pub apart : (first last next end : ℕ) → HasRange ranges first last → HasRange ranges next end → first < next → last < next
 
 -- ---- words of private clauses
 
 -- the last of the ranges that begin at an id or before it
 abbrev pub IsBefore : BTreeMap ℕ ℕ → ℕ → Option (ℕ × ℕ) → Type 0
-IsBefore ranges id None = (first last : ℕ) → Ranges ranges first last → id < first
-IsBefore ranges id (Some range) = Ranges ranges range.0 range.1 × (range.0 ≤ id) × ((first last : ℕ) → Ranges ranges first last → first ≤ id → first ≤ range.0)
+IsBefore ranges id None = (first last : ℕ) → HasRange ranges first last → id < first
+IsBefore ranges id (Some range) = HasRange ranges range.0 range.1 × (range.0 ≤ id) × ((first last : ℕ) → HasRange ranges first last → first ≤ id → first ≤ range.0)
 
 -- the range that begins just after an id
 abbrev pub IsAfter : BTreeMap ℕ ℕ → ℕ → Option (ℕ × ℕ) → Type 0
 IsAfter ranges id None = ⊤
-IsAfter ranges id (Some range) = (range.0 ≡ id + 1) × Ranges ranges range.0 range.1
+IsAfter ranges id (Some range) = (range.0 ≡ id + 1) × HasRange ranges range.0 range.1
 
 abbrev pub covers : Option (ℕ × ℕ) → ℕ → Bool
 covers None id = false

@@ -17,7 +17,7 @@ pub record IsTurnFrom (m : History) (last : CachedTurn) : Type 0 where
   pub bytes : last.bytes.items ≡ chunks lines last.has_ended
 
 -- for private clauses: a watch that stands so, and stood so where it had sent up to there, has sent up to here
-pub record TurnEnds (there : Option ResumePoint) (next before : Cursor) (here : ResumePoint) : Type 0 where
+pub record TurnSpan (there : Option ResumePoint) (next before : Cursor) (here : ResumePoint) : Type 0 where
   pub start : ResumePoint
   pub there_is : there ≡ Some start
   pub before_is : before ≡ moved next start.position start.sent next.left

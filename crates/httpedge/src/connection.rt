@@ -9,17 +9,17 @@ ghost use Rattle.verbs.specs.Views.{ApiRepresents};
 ghost use Rattle.httpedge.specs.ChangeViews.{MakesRepresented, takes_memory_on};
 ghost use Rattle.httpedge.specs.Connections as model;
 ghost use Rattle.httpedge.specs.Connections.{Connections, ended, gone, open_count, new_connection, with_phase, with_taken};
-ghost use Rattle.httpedge.specs.ConnectionViews.{Becomes, ConnectionRepresents, Received, has_ended_in, is_open_in, is_waiting_in, out_in, had_ended_if_over_in};
+ghost use Rattle.httpedge.specs.ConnectionViews.{Becomes, ConnectionRepresents, ReceivesRepresented, has_ended_in, is_open_in, is_waiting_in, out_in, had_ended_if_over_in};
 ghost use Rattle.requests.specs.ReadBufferViews.{buffered};
 ghost use Rattle.requests.specs.Pendings.{Awaits, Finds};
 ghost use Rattle.httpedge.specs.SharedViews.{SharedRepresents};
 ghost use Rattle.httpedge.specs.Steps.{answered, opening};
-ghost use Rattle.httpedge.specs.declared.event.Change.TheVariants as changes;
+ghost use Rattle.httpedge.specs.declared.event.ConnectionInput.TheVariants as changes;
 ghost use Rattle.requests.specs.Replies.{answer_bytes};
 ghost use Rattle.watchline.specs.Views.{watch_from};
 
 use crate::answering::{CallReply, serve};
-use crate::event::Change;
+use crate::event::ConnectionInput;
 use crate::out::Out;
 use crate::shared::Shared;
 use crate::turns::pump_on;
@@ -207,7 +207,7 @@ fn receive(
     bytes: &[u8],
     last_tick: u64,
 ) -> Result<Connection, Fault>
-    ensures ok { (types : List ServedShape) (m : History) (c : model.Connection) → ApiRepresents api.old types m → ConnectionRepresents types connection c → IfOk result (λ d. Received types m last_tick c bytes.now d api.new) }
+    ensures ok { (types : List ServedShape) (m : History) (c : model.Connection) → ApiRepresents api.old types m → ConnectionRepresents types connection c → IfOk result (λ d. ReceivesRepresented types m last_tick c bytes.now d api.new) }
     ensures err { (types : List ServedShape) (m : History) → ApiRepresents api.old types m → OnErr result (ApiRepresents api.new types m) }
     ensures waited { OnErr result (is_waiting_in connection ≡ true) }
 {
@@ -229,7 +229,7 @@ pub(crate) fn receive_on(
     bytes: &[u8],
     last_tick: u64,
 ) -> Result<(), Fault>
-    ensures ok { (types : List ServedShape) (m : History) (c : model.Connection) → SharedRepresents shared.old types m → ConnectionRepresents types connection.old c → OnOk result (Received types m last_tick c bytes.now connection.new shared.new.api) }
+    ensures ok { (types : List ServedShape) (m : History) (c : model.Connection) → SharedRepresents shared.old types m → ConnectionRepresents types connection.old c → OnOk result (ReceivesRepresented types m last_tick c bytes.now connection.new shared.new.api) }
     ensures forgotten { shared.new.last ≡ None }
     ensures err { (types : List ServedShape) (m : History) → SharedRepresents shared.old types m → OnErr result (SharedRepresents shared.new types m) }
     ensures waited { OnErr result (is_waiting_in connection.old ≡ true) }
@@ -247,7 +247,7 @@ pub(crate) fn change(
     alloc: Global,
     shared: &mut Shared,
     connection: &mut Connection,
-    what: Change,
+    what: ConnectionInput,
     last_tick: u64,
 ) -> Result<(), Fault>
     ensures ok { (types : List ServedShape) (m : History) (c : model.Connection) → SharedRepresents shared.old types m → ConnectionRepresents types connection.old c → OnOk result (MakesRepresented types m last_tick what.entry c connection.new shared.new) }
@@ -257,9 +257,9 @@ pub(crate) fn change(
     ensures gone { what.entry ≡ changes.Gone → result ≡ Ok tt }
 {
     match what {
-        Change::Bytes(bytes) => receive_on(alloc, shared, connection, bytes, last_tick),
-        Change::Lines(max) => pump_on(alloc, shared, connection, max),
-        Change::Gone => {
+        ConnectionInput::Bytes(bytes) => receive_on(alloc, shared, connection, bytes, last_tick),
+        ConnectionInput::Lines(max) => pump_on(alloc, shared, connection, max),
+        ConnectionInput::Gone => {
             go_from(connection);
             Ok(())
         }

@@ -9,21 +9,21 @@ ghost use Rattle.history.specs.History.{History};
 ghost use Rattle.httpedge.specs.ChangeViews.{Changes};
 ghost use Rattle.httpedge.specs.Connections.{Connection as TheConnection};
 ghost use Rattle.httpedge.specs.Connections.{open_count, with_taken};
-ghost use Rattle.httpedge.specs.ConnectionViews.{BecomesAt, Closes, Forgets, ConnectionRepresents, IsApart, IsAt, IsFresh, IsSame, Opens, PartsRepresent, found, has_ended_in, is_waiting_in, kept_in, out_in, had_ended_if_over_in, over_of};
+ghost use Rattle.httpedge.specs.ConnectionViews.{BecomesAt, OpenIdsAfter, Forgets, ConnectionRepresents, IsApart, IsAt, IsFresh, IsSame, Opens, PartsRepresent, found, has_ended_in, is_waiting_in, kept_in, out_in, had_ended_if_over_in, had_ended_by_ids};
 ghost use Rattle.httpedge.specs.HubViews.{done, outcome_of, refusal_in, refused};
 ghost use Rattle.httpedge.specs.IdViews.{is_in};
 ghost use Rattle.httpedge.specs.SharedViews.{SharedRepresents};
 ghost use Rattle.httpedge.specs.Steps.{State, start, unknown_id};
 ghost use Rattle.httpedge.specs.TickViews.{TicksIn};
 ghost use Rattle.httpedge.specs.declared.connection.Connection as held;
-ghost use Rattle.httpedge.specs.declared.event.Change.TheVariants as changes;
+ghost use Rattle.httpedge.specs.declared.event.ConnectionInput.TheVariants as changes;
 ghost use Rattle.httpedge.specs.declared.fault.HubFault.TheVariants as fault;
 ghost use Rattle.httpedge.specs.declared.shared.Shared as shares;
 
 use crate::connection::{
     Connection, change, had_ended_if_over, has_ended, is_open, is_waiting, out_of, take_from,
 };
-use crate::event::Change;
+use crate::event::ConnectionInput;
 use crate::fault::HubFault;
 use crate::ids::Ids;
 use crate::shared::Shared;
@@ -84,7 +84,7 @@ impl Connections {
 
     /// Whether a connection that isn't held had ended, if the id is known.
     fn had_ended_if_over(&self, id: u64) -> Option<bool>
-        ensures { result ≡ over_of (is_in self.now.ended.ranges id) (is_in self.now.cut.ranges id) }
+        ensures { result ≡ had_ended_by_ids (is_in self.now.ended.ranges id) (is_in self.now.cut.ranges id) }
     {
         if self.ended.contains(id) {
             return Some(true);
@@ -160,7 +160,7 @@ impl Connections {
         alloc: Global,
         shared: &mut Shared,
         id: u64,
-        what: Change,
+        what: ConnectionInput,
         last_tick: u64,
     ) -> Result<(), HubFault>
         ensures known { (types : List ServedShape) (m : History) (d : held.Connection) (c : TheConnection) → SharedRepresents shared.old types m → IsAt id d self.old → ConnectionRepresents types d c
@@ -187,7 +187,7 @@ impl Connections {
 
     /// One that isn't held is over, or unknown.
     fn answer_unheld(&self, id: u64) -> Result<(), HubFault>
-        ensures outcome { outcome_of result ≡ cond (is_some (over_of (is_in self.now.ended.ranges id) (is_in self.now.cut.ranges id))) done (refused unknown_id) }
+        ensures outcome { outcome_of result ≡ cond (is_some (had_ended_by_ids (is_in self.now.ended.ranges id) (is_in self.now.cut.ranges id))) done (refused unknown_id) }
         ensures store { result ≢ Err fault.Store }
     {
         if self.had_ended_if_over(id).is_some() {
@@ -224,7 +224,7 @@ impl Connections {
 
     /// The id of one that isn't open is no longer among those that are.
     fn close(&mut self, id: u64, is_open: bool)
-        ensures closes { Closes id is_open self.old self.new }
+        ensures closes { OpenIdsAfter id is_open self.old self.new }
         ensures held { self.new.held ≡ self.old.held }
         ensures ended { self.new.ended ≡ self.old.ended }
         ensures cut { self.new.cut ≡ self.old.cut }

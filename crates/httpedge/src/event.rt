@@ -25,7 +25,7 @@ pub enum Event {
 
 /// What an event changes one connection by.
 #[derive(Clone, Copy, Debug)]
-pub(crate) enum Change<'a> {
+pub(crate) enum ConnectionInput<'a> {
     /// Bytes come on it.
     Bytes(&'a [u8]),
     /// It may write so many lines.

@@ -10,12 +10,12 @@ ghost use Rattle.httpedge.specs.ConnectionViews.{is_above, kept_in};
 ghost use Rattle.serde_json.specs.View.{view};
 ghost use Rattle.httpedge.specs.HubViews.{StepsOrRefuses, IsActionOf, HubRepresents, ReportsOutcome, ReportsFile, asks_store, event_of, outcome_of, refusal_in};
 ghost use Rattle.httpedge.specs.Runs.{Follows, Action, Runs, Steps, takes};
-ghost use Rattle.httpedge.specs.declared.event.Change.TheVariants as changes;
+ghost use Rattle.httpedge.specs.declared.event.ConnectionInput.TheVariants as changes;
 ghost use Rattle.httpedge.specs.Steps.{State, compacts, opens, pumps, retypes, start, ticks, with_bytes_taken};
 
 use crate::connection::opening;
 use crate::connections::Connections;
-use crate::event::{Change, Event};
+use crate::event::{ConnectionInput, Event};
 use crate::fault::HubFault;
 use crate::shared::Shared;
 use revstore::CompactFault;
@@ -89,7 +89,7 @@ impl Hub {
     }
 
     /// Changes the connection of an id.
-    fn change(&mut self, id: u64, what: Change) -> Result<(), HubFault>
+    fn change(&mut self, id: u64, what: ConnectionInput) -> Result<(), HubFault>
         ensures handles { what.entry ≢ changes.Lines 0 → StepsOrRefuses self.old (event_on id what.entry) (outcome_of result) self.new }
         ensures gone { what.entry ≡ changes.Gone → result ≢ Err HubFault.Store }
     {
@@ -101,7 +101,7 @@ impl Hub {
         ensures { StepsOrRefuses self.old (pumps id max) (outcome_of result) self.new }
     {
         if max > 0 {
-            return self.change(id, Change::Lines(max as usize));
+            return self.change(id, ConnectionInput::Lines(max as usize));
         }
         if self.connections.is_known(id) {
             Err(HubFault::NoLines)
@@ -163,8 +163,8 @@ impl Hub {
     {
         match event {
             Event::Open(id) => self.open(*id),
-            Event::In(id, bytes) => self.change(*id, Change::Bytes(bytes)),
-            Event::Gone(id) => self.change(*id, Change::Gone),
+            Event::In(id, bytes) => self.change(*id, ConnectionInput::Bytes(bytes)),
+            Event::Gone(id) => self.change(*id, ConnectionInput::Gone),
             Event::Pump(id, max) => self.pump(*id, *max),
             Event::Tick(ms) => self.tick(*ms),
             Event::Compact(revision) => self.compact(*revision),

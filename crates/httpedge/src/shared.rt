@@ -9,7 +9,7 @@ ghost use Rattle.verbs.specs.Retyping.{retyped, retyping};
 ghost use Rattle.verbs.specs.Views.{IsFileFault, ApiRepresents, retype_refusal, reported_of_file};
 ghost use Rattle.watchline.specs.Watches.{from_history, moved, pumped, with_bookmarks};
 ghost use Rattle.httpedge.specs.ConnectionViews.{Pumps, left};
-ghost use Rattle.httpedge.specs.SharedViews.{TurnEnds, IsTurnFrom, SharedRepresents};
+ghost use Rattle.httpedge.specs.SharedViews.{TurnSpan, IsTurnFrom, SharedRepresents};
 
 use crate::out::Out;
 use requests::chunks;
@@ -45,13 +45,13 @@ impl CachedTurn {
 
 /// How a watch stood before it sent these bytes, and up to where it has sent; none where the turn isn't kept: it sent nothing
 /// or too much, an object was left to be sent, or there is no memory for a copy.
-fn ends_to_cache(
+fn span_to_cache(
     alloc: Global,
     bytes: &[u8],
     before: Option<ResumePoint>,
     cursor: &WatchCursor,
 ) -> Option<(WatchCursor, ResumePoint)>
-    ensures { IfSome result (λ p. TurnEnds before cursor.now p.0 p.1) }
+    ensures { IfSome result (λ p. TurnSpan before cursor.now p.0 p.1) }
 {
     if bytes.is_empty() || bytes.len() > MOST_BYTES {
         return None;
@@ -122,7 +122,7 @@ impl Shared {
         let has_ended = pumped.ended;
         let bytes = chunks(alloc, &pumped.lines, has_ended)?;
         out.add(&bytes)?;
-        if let Some((before, resume_point)) = ends_to_cache(alloc, &bytes, before, cursor) {
+        if let Some((before, resume_point)) = span_to_cache(alloc, &bytes, before, cursor) {
             self.keep(CachedTurn {
                 before,
                 max,

@@ -78,8 +78,8 @@ module _ (ns : List Notice) where
   watch_ahead c (Some now) (line l) = line_ahead c now l
   watch_ahead c None over = refl
   watch_ahead c (Some now) over = refl
-  watch_ahead c None unfit = refl
-  watch_ahead c (Some now) unfit = refl
+  watch_ahead c None unexpected = refl
+  watch_ahead c (Some now) unexpected = refl
 
   item_ahead : (wanted : Wanted) (c : Client) (asks : SyncPhase) (x : ReplyItem) → with_item wanted (ahead ns c) asks x ≡ ahead ns (with_item wanted c asks x)
   item_ahead wanted c first x = list_ahead c (with_page (ahead ns c) []) (with_page c []) (said_of_list wanted x) (page_ahead c [])

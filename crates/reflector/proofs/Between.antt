@@ -7,7 +7,7 @@ use Rattle.std.specs.FinMap as fin
 use Rattle.std.specs.FinMap.Entries.{by_order, find, below_all, is_sorted, put, same_entries}
 use Rattle.indexer.specs.Objects.{Place, place_cmp, Stored}
 use Rattle.reflector.specs.Client.{Objects, Notice, added, deleted, notice_of, differences}
-use Rattle.reflector.specs.BetweenViews.{between, first_emitted, new_left, old_left}
+use Rattle.reflector.specs.BetweenViews.{between, first_notices, new_left, old_left}
 use Rattle.reflector.proofs.Places.{place_total, same_place}
 use Rattle.reflector.proofs.Keyed.{Entries, place_antisymmetric}
 
@@ -201,7 +201,7 @@ of_entries before after = go (fin.keys (fin.from_entries {R = place_cmp} (fin.en
 
 -- what is told of the first places, and what is left then
 pub step : (o : Ordering) (x y : Place × Stored) (xs ys : Entries) → o ≡ place_cmp x.0 y.0 → T (is_sorted place_cmp (x ∷ xs)) → T (is_sorted place_cmp (y ∷ ys))
-    → first_emitted o (x ∷ xs) (y ∷ ys) ++ between (old_left o (x ∷ xs)) (new_left o (y ∷ ys)) ≡ between (x ∷ xs) (y ∷ ys)
+    → first_notices o (x ∷ xs) (y ∷ ys) ++ between (old_left o (x ∷ xs)) (new_left o (y ∷ ys)) ≡ between (x ∷ xs) (y ∷ ys)
 step Less x y xs ys is h k =
     sym (old_first x xs (y ∷ ys) (fst _ _ h) (both _ _ (subst (λ o. T (is_lt o)) is tt) (below_lower x.0 y.0 ys (sym is) (fst _ _ k))))
 step Equal x y xs ys is h k = sym (both_first x y xs ys (place_antisymmetric x.0 y.0 (sym is)) (fst _ _ h) (fst _ _ k))

@@ -6,7 +6,7 @@ use Rattle.indexer.specs.Objects.{Stored}
 use Rattle.reflector.specs.Client.{SyncPhase, first, next, streaming, Cache, Client, fresh}
 use Rattle.reflector.specs.Items.{Response, begun, page, line, over, unexpected, said_of_list}
 use Rattle.reflector.specs.Run.{relisting, asked, closed, taken}
-use Rattle.reflector.specs.FollowsLaws.{Server, IsReplyTo, Follows, FollowsFrom, IsSyncTenable, IsCache, IsListStep, IsListReply, IsWatchReply}
+use Rattle.reflector.specs.FollowsLaws.{Server, IsReplyTo, Follows, FollowsFrom, IsSyncSound, IsCacheOf, IsListStep, IsListReply, IsWatchReply}
 use Rattle.reflector.specs.EventLaws.{Event, requested, writes, receives, cut, abandons, restart, takes, grows, ClientAndServer, start, IsLawful, highest_with, after, AreLawful, CacheMatches, CachesMatch}
 use Rattle.reflector.proofs.Follows.{given_up, items_received, is_asked, is_closed, is_fresh, is_taken}
 use Rattle.reflector.proofs.Grows.{follows_later, watches-append}
@@ -30,7 +30,7 @@ module _ (wanted : Wanted) where
   comes_lower server k n (next r token paged_list) xs p le is = lists_lower server k n paged_list xs le is
   comes_lower server k n streaming xs p le is = tt
 
-  lower_sync : (server : Server) (k n : ℕ) (what : SyncPhase) (cache : Option Cache) → k ≤ n → IsSyncTenable server n what cache → IsSyncTenable server k what cache
+  lower_sync : (server : Server) (k n : ℕ) (what : SyncPhase) (cache : Option Cache) → k ≤ n → IsSyncSound server n what cache → IsSyncSound server k what cache
   lower_sync server k n first cache le is = tt
   lower_sync server k n (next r token paged_list) cache le is = let a = is.0 in (omega (arith, a, le), is.1, is.2)
   lower_sync server k n streaming cache le is = is
@@ -40,7 +40,7 @@ module _ (wanted : Wanted) where
       let a = is.low in
       record {
         low = omega (arith, a, le);
-        cache = subst (IsCache server k) (sym none) tt;
+        cache = subst (IsCacheOf server k) (sym none) tt;
         sync = lower_sync server k n c.sync c.cache le is.sync;
         coming = λ awaiting_reply. subst (λ cache. IsReplyTo server wanted k c.sync cache xs p) (sym none) (comes_lower server k n c.sync xs p le (subst (λ cache. IsReplyTo server wanted n c.sync cache xs p) none (is.coming awaiting_reply)));
       }
@@ -50,7 +50,7 @@ module _ (wanted : Wanted) where
     where
       go : (cache : Option Cache) → c.cache ≡ cache → Follows server wanted (highest_with m cache) c xs p
       go None e = lowered server m n c xs p le e is
-      go (Some now) e = subst (λ k. Follows server wanted k c xs p) (sym (subst (IsCache server n) e is.cache).0) is
+      go (Some now) e = subst (λ k. Follows server wanted k c xs p) (sym (subst (IsCacheOf server n) e is.cache).0) is
 
   -- ---- more of a watch
 
@@ -86,7 +86,7 @@ module _ (wanted : Wanted) where
   moves b takes is lawful = at_least b.server b.highest (taken b.client) b.coming b.to (is_taken b.server wanted b.highest b.client b.coming b.to is)
   moves b (grows later) is lawful = at_least later b.highest b.client b.coming b.to (follows_later b.server later wanted lawful b.highest b.client b.coming b.to is)
 
-  is_right : (server : Server) (m n : ℕ) (cache : Option Cache) → m ≤ n → n ≤ server.top → IsCache server n cache → CacheMatches server m cache
+  is_right : (server : Server) (m n : ℕ) (cache : Option Cache) → m ≤ n → n ≤ server.top → IsCacheOf server n cache → CacheMatches server m cache
   is_right server m n None le low is = tt
   is_right server m n (Some now) le low is = (subst (λ k. m ≤ k) (sym is.0) le, subst (λ k. k ≤ server.top) (sym is.0) low, is.1)
 

@@ -7,7 +7,7 @@ use Rattle.decoder.specs.Wanted.{Wanted}
 use Rattle.decoder.specs.Lines.{put, deleted, bookmark, error}
 use Rattle.reflector.specs.Client.{Objects, place_in, max_objects, Notice, Cache, SyncPhase, streaming, Client, notice_of}
 use Rattle.reflector.specs.FittingLaws.{IsFitting, AreFitting, revision_after, revision_after_all}
-use Rattle.reflector.specs.FollowsLaws.{Server, IsCache, IsSyncTenable, IsReplyTo, Follows, IsWatchStep, IsWatchReply}
+use Rattle.reflector.specs.FollowsLaws.{Server, IsCacheOf, IsSyncSound, IsReplyTo, Follows, IsWatchStep, IsWatchReply}
 use Rattle.reflector.specs.Items.{Response, begun, page, line, over, unexpected, said_of_watch}
 use Rattle.reflector.specs.Run.{relisting, moved, with_watch, receives_all}
 
@@ -51,7 +51,7 @@ module _ (server : Server) (wanted : Wanted) (few : (r : ℕ) → r ≤ server.t
   all_fit [] p fits r notices leads = (refl, ap (λ (os : Objects). Some (record { revision = r; objects = os })) leads.2)
   all_fit (x ∷ xs) p fits r notices leads = one_fits (said_of_watch wanted x) xs p r notices leads fits.0 (all_fit xs p fits.1)
 
-  from_cache : (m : ℕ) (cache : Option Cache) (notices : List Notice) (xs : List ReplyItem) (p : ℕ) → IsCache server m cache → is_some cache ≡ true → IsReplyTo server wanted m streaming cache xs p → AreFitting wanted xs
+  from_cache : (m : ℕ) (cache : Option Cache) (notices : List Notice) (xs : List ReplyItem) (p : ℕ) → IsCacheOf server m cache → is_some cache ≡ true → IsReplyTo server wanted m streaming cache xs p → AreFitting wanted xs
       → Reaches (receives_all wanted (record { cache = cache; sync = streaming; is_awaiting_reply = true; notices = notices }) xs) (revision_after_all wanted m xs) p
   from_cache m None notices xs p held known comes fits = absurd cc
   from_cache m (Some now) notices xs p held known comes fits =
@@ -62,7 +62,7 @@ module _ (server : Server) (wanted : Wanted) (few : (r : ℕ) → r ≤ server.t
   pub fitting_taken : (m : ℕ) (c : Client) (xs : List ReplyItem) (p : ℕ) → Follows server wanted m c xs p → c.sync ≡ streaming → c.is_awaiting_reply ≡ true → AreFitting wanted xs
       → Reaches (receives_all wanted c xs) (revision_after_all wanted m xs) p
   fitting_taken m c xs p is sync awaiting_reply fits =
-      let known : IsSyncTenable server m streaming c.cache = subst (λ (a : SyncPhase). IsSyncTenable server m a c.cache) sync is.sync in
+      let known : IsSyncSound server m streaming c.cache = subst (λ (a : SyncPhase). IsSyncSound server m a c.cache) sync is.sync in
       let comes : IsReplyTo server wanted m streaming c.cache xs p = subst (λ (a : SyncPhase). IsReplyTo server wanted m a c.cache xs p) sync (is.coming awaiting_reply) in
       let same : c ≡ record { cache = c.cache; sync = streaming; is_awaiting_reply = true; notices = c.notices } = ap₂ (λ (a : SyncPhase) (b : Bool). record { cache = c.cache; sync = a; is_awaiting_reply = b; notices = c.notices }) sync awaiting_reply in
       subst (λ (d : Client). Reaches (receives_all wanted d xs) (revision_after_all wanted m xs) p) (sym same) (from_cache m c.cache c.notices xs p is.cache known comes fits)

@@ -7,7 +7,7 @@ use Rattle.decoder.specs.Wanted.{Wanted}
 use Rattle.decoder.specs.Lines.{Line, put, deleted, bookmark, error}
 use Rattle.reflector.specs.Client.{place_in, Cache, SyncPhase, first, next, streaming, Client}
 use Rattle.reflector.specs.Items.{Response, begun, page, line, over, unexpected, said_of_list, said_of_watch}
-use Rattle.reflector.specs.FollowsLaws.{Server, IsCache, IsPart, IsSyncTenable, IsListStep, IsListReply, IsLineStep, IsWatchStep, IsWatchReply, IsReplyTo, Follows, IsLater}
+use Rattle.reflector.specs.FollowsLaws.{Server, IsCacheOf, IsPart, IsSyncSound, IsListStep, IsListReply, IsLineStep, IsWatchStep, IsWatchReply, IsReplyTo, Follows, IsLater}
 
 module _ (server later : Server) (wanted : Wanted) (is_later : IsLater server later) where
   part_later : (r : ℕ) (objects : List Stored) (token : Option (List ℕ)) → r ≤ server.top → IsPart server r objects token → IsPart later r objects token
@@ -58,17 +58,17 @@ module _ (server later : Server) (wanted : Wanted) (is_later : IsLater server la
   watches_later r (x ∷ xs) p h is =
       response_later r (said_of_watch wanted x) (λ q. IsWatchReply server wanted q xs p) (λ q. IsWatchReply later wanted q xs p) h (λ q k. watches_later q xs p k) is
 
-  comes_later : (m : ℕ) (sync : SyncPhase) (cache : Option Cache) (xs : List ReplyItem) (p : ℕ) → m ≤ server.top → IsCache server m cache → IsReplyTo server wanted m sync cache xs p → IsReplyTo later wanted m sync cache xs p
+  comes_later : (m : ℕ) (sync : SyncPhase) (cache : Option Cache) (xs : List ReplyItem) (p : ℕ) → m ≤ server.top → IsCacheOf server m cache → IsReplyTo server wanted m sync cache xs p → IsReplyTo later wanted m sync cache xs p
   comes_later m first cache xs p h held is = lists_later m [] xs is
   comes_later m (next r token paged_list) cache xs p h held is = lists_later m paged_list xs is
   comes_later m streaming None xs p h held is = tt
   comes_later m streaming (Some now) xs p h held is = let a : now.revision ≡ m = held.0 in watches_later now.revision xs p (omega arith) is
 
-  cache_later : (m : ℕ) (cache : Option Cache) → m ≤ server.top → IsCache server m cache → IsCache later m cache
+  cache_later : (m : ℕ) (cache : Option Cache) → m ≤ server.top → IsCacheOf server m cache → IsCacheOf later m cache
   cache_later m None h is = tt
   cache_later m (Some now) h is = let a : now.revision ≡ m = is.0 in (a, is.1 ∙ sym (is_later.same now.revision (omega arith)))
 
-  sync_later : (m : ℕ) (sync : SyncPhase) (cache : Option Cache) → IsSyncTenable server m sync cache → IsSyncTenable later m sync cache
+  sync_later : (m : ℕ) (sync : SyncPhase) (cache : Option Cache) → IsSyncSound server m sync cache → IsSyncSound later m sync cache
   sync_later m first cache is = tt
   sync_later m (next r token paged_list) cache is =
       let a : r ≤ server.top = is.1 in

@@ -6,7 +6,7 @@ use Rattle.indexer.specs.Objects.{Stored}
 use Rattle.wireclient.specs.Reads.{Items}
 use Rattle.wireclient.specs.Reply.{State, ReplyItem}
 use Rattle.reflector.specs.Client.{Client, Notice, fresh}
-use Rattle.reflector.specs.InformerViews.{TracksButReader}
+use Rattle.reflector.specs.InformerViews.{RepresentsExceptReader}
 use Rattle.reflector.specs.ReadingViews.{AreReceived, IsRead, reader_of, relist_reason_of}
 use Rattle.reflector.specs.MirrorViews.{Keys, Mirrors}
 use Rattle.reflector.specs.declared.informer.Informer.{Informer}
@@ -33,7 +33,7 @@ open_without_reason (reply.Open reader) is = refl
 open_without_reason reply.Over is = absurd (true≢false (sym is))
 open_without_reason (reply.GivenUp t) is = absurd (true≢false (sym is))
 
-pub without_reason : {I : Type 0} (keys : I → Stored → List (List ℕ)) (i : Informer I) (c : Client) (t : Option RelistReason) → is_some (reader_of i.reply) ≡ true → TracksButReader keys i c t → TracksButReader keys i c None
+pub without_reason : {I : Type 0} (keys : I → Stored → List (List ℕ)) (i : Informer I) (c : Client) (t : Option RelistReason) → is_some (reader_of i.reply) ≡ true → RepresentsExceptReader keys i c t → RepresentsExceptReader keys i c None
 without_reason keys i c t is k = record { mirror = k.mirror; sync = k.sync; awaiting_reply = k.awaiting_reply; relist_reason = open_without_reason i.reply is }
 
 -- nothing is read of one that is not under way

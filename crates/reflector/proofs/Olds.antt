@@ -11,7 +11,7 @@ use Rattle.decoder.specs.OwnTexts.{IsItsText, AreTheirTexts}
 use Rattle.decoder.specs.Wanted.{Wanted}
 use Rattle.decoder.proofs.OwnTexts.{same_text}
 use Rattle.reflector.specs.Client.{Objects, place_in, by_place, Notice, updated, notice_of, differences}
-use Rattle.reflector.specs.ReplayLaws.{with_notice, replayed, AreAlike, AreUnderKey, OldSidesMatch, AreRead}
+use Rattle.reflector.specs.ReplayLaws.{with_notice, replayed, AreAlike, AreUnderKey, OldSidesMatch, MatchTheirTexts}
 use Rattle.reflector.proofs.Between.{fst, snd, itself, find_low}
 use Rattle.reflector.proofs.Keyed.{place_antisymmetric}
 use Rattle.reflector.proofs.Places.{place_total, same_place}
@@ -87,11 +87,11 @@ module _ (before now : Objects) (under_key_before : AreUnderKey before) (under_k
 -- ---- what was read
 
 module _ (wanted : Wanted) where
-  pub under_key : (o : Objects) → AreRead wanted o → AreUnderKey o
+  pub under_key : (o : Objects) → MatchTheirTexts wanted o → AreUnderKey o
   under_key o read p s is = (read p s is).0
 
   -- objects with the same texts are the same
-  pub same_objects : (o q : Objects) → AreRead wanted o → AreRead wanted q → AreAlike o q → o ≡ q
+  pub same_objects : (o q : Objects) → MatchTheirTexts wanted o → MatchTheirTexts wanted q → AreAlike o q → o ≡ q
   same_objects o q first second alike = fin.same_map place_total place_antisymmetric o q (λ p. go p (fin.get o p) (fin.get q p) refl refl (alike p))
     where
       go : (p : Place) (x y : Option Stored) → fin.get o p ≡ x → fin.get q p ≡ y → option_map (λ s. s.text) x ≡ option_map (λ s. s.text) y → x ≡ y
@@ -103,20 +103,20 @@ module _ (wanted : Wanted) where
           text_is : (x y : List ℕ) → Some x ≡ Some y → x ≡ y
           text_is x y e = cc
 
-  pub empty_read : AreRead wanted fin.empty
+  pub empty_read : MatchTheirTexts wanted fin.empty
   empty_read p s is = none_there (fin.get fin.empty p) (fin.get-empty place_cmp p) is
     where
       none_there : (x : Option Stored) → x ≡ None → x ≡ Some s → (place_in s ≡ p) × IsItsText wanted s
       none_there x none some = absurd cc
 
-  pub insert_read : (o : Objects) (s : Stored) → AreRead wanted o → IsItsText wanted s → AreRead wanted (fin.insert o (place_in s) s)
+  pub insert_read : (o : Objects) (s : Stored) → MatchTheirTexts wanted o → IsItsText wanted s → MatchTheirTexts wanted (fin.insert o (place_in s) s)
   insert_read o s read own q t is = go (eq_by_cmp place_cmp q (place_in s)) refl (sym (fin.get-insert place_total o (place_in s) s q) ∙ is)
     where
       go : (u : Bool) → eq_by_cmp place_cmp q (place_in s) ≡ u → cond u (Some s) (fin.get o q) ≡ Some t → (place_in t ≡ q) × IsItsText wanted t
       go true e same = (ap place_in (sym (some_is s t same)) ∙ sym (same_place q (place_in s) e), subst (IsItsText wanted) (some_is s t same) own)
       go false e same = read q t same
 
-  pub remove_read : (o : Objects) (p : Place) → AreRead wanted o → AreRead wanted (fin.remove o p)
+  pub remove_read : (o : Objects) (p : Place) → MatchTheirTexts wanted o → MatchTheirTexts wanted (fin.remove o p)
   remove_read o p read q t is = go (eq_by_cmp place_cmp q p) (sym (fin.get-remove place_total o p q) ∙ is)
     where
       go : (u : Bool) → cond u None (fin.get o q) ≡ Some t → (place_in t ≡ q) × IsItsText wanted t
@@ -127,30 +127,30 @@ module _ (wanted : Wanted) where
   SomeIsRead None = ⊤
   SomeIsRead (Some s) = IsItsText wanted s
 
-  pub notice_read : (o : Objects) (x y : Option Stored) → AreRead wanted o → SomeIsRead y → AreRead wanted (replayed o (notice_of x y))
+  pub notice_read : (o : Objects) (x y : Option Stored) → MatchTheirTexts wanted o → SomeIsRead y → MatchTheirTexts wanted (replayed o (notice_of x y))
   notice_read o None None read own = read
   notice_read o None (Some n) read own = insert_read o n read own
   notice_read o (Some s) None read own = remove_read o (place_in s) read
   notice_read o (Some s) (Some n) read own = go (bytes_eq s.text n.text)
     where
-      go : (t : Bool) → AreRead wanted (replayed o (cond t [] (updated s n ∷ [])))
+      go : (t : Bool) → MatchTheirTexts wanted (replayed o (cond t [] (updated s n ∷ [])))
       go true = read
       go false = insert_read o n read own
 
-  there_read : (o : Objects) (p : Place) → AreRead wanted o → SomeIsRead (fin.get o p)
+  there_read : (o : Objects) (p : Place) → MatchTheirTexts wanted o → SomeIsRead (fin.get o p)
   there_read o p read = go (fin.get o p) refl
     where
       go : (x : Option Stored) → fin.get o p ≡ x → SomeIsRead x
       go None is = tt
       go (Some s) is = (read p s is).1
 
-  places_read : (before now : Objects) → AreRead wanted now → (ps : List Place) (o : Objects) → AreRead wanted o → AreRead wanted (replayed o (flat_map (λ p. notice_of (fin.get before p) (fin.get now p)) ps))
+  places_read : (before now : Objects) → MatchTheirTexts wanted now → (ps : List Place) (o : Objects) → MatchTheirTexts wanted o → MatchTheirTexts wanted (replayed o (flat_map (λ p. notice_of (fin.get before p) (fin.get now p)) ps))
   places_read before now after [] o read = read
   places_read before now after (p ∷ ps) o read =
-      subst (AreRead wanted) (sym (replayed-append o (notice_of (fin.get before p) (fin.get now p)) (flat_map (λ p. notice_of (fin.get before p) (fin.get now p)) ps)))
+      subst (MatchTheirTexts wanted) (sym (replayed-append o (notice_of (fin.get before p) (fin.get now p)) (flat_map (λ p. notice_of (fin.get before p) (fin.get now p)) ps)))
       (places_read before now after ps (replayed o (notice_of (fin.get before p) (fin.get now p))) (notice_read o (fin.get before p) (fin.get now p) read (there_read now p after)))
 
-  pub differences_read : (before now : Objects) → AreRead wanted before → AreRead wanted now → AreRead wanted (replayed before (differences before now))
+  pub differences_read : (before now : Objects) → MatchTheirTexts wanted before → MatchTheirTexts wanted now → MatchTheirTexts wanted (replayed before (differences before now))
   differences_read before now first second = places_read before now second (fin.keys (fin.from_entries {R = place_cmp} (fin.entries before ++ fin.entries now))) before first
 
   found_read : (all : List Stored) (q : Place) (t : Stored) → AreTheirTexts wanted all → find place_cmp q (by_place all) ≡ Some t → IsItsText wanted t
@@ -161,7 +161,7 @@ module _ (wanted : Wanted) where
       go true first others same = subst (IsItsText wanted) (some_is s t same) first
       go false first others same = others same
 
-  pub list_read : (all : List Stored) → T (is_sorted place_cmp (by_place all)) → AreTheirTexts wanted all → AreRead wanted (fin.from_sorted {R = place_cmp} (by_place all))
+  pub list_read : (all : List Stored) → T (is_sorted place_cmp (by_place all)) → AreTheirTexts wanted all → MatchTheirTexts wanted (fin.from_sorted {R = place_cmp} (by_place all))
   list_read all sorted own p s is = (list_under_key all sorted p s is, found_read all p s own (sym (fin.get-from_sorted place_cmp (by_place all) p sorted) ∙ is))
 
   pub texts-append : (xs ys : List Stored) → AreTheirTexts wanted xs → AreTheirTexts wanted ys → AreTheirTexts wanted (xs ++ ys)

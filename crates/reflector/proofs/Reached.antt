@@ -8,7 +8,7 @@ use Rattle.decoder.specs.Lines.{Line, put, deleted, bookmark, error}
 use Rattle.reflector.specs.Client.{Objects, place_in, max_objects, Notice, Cache, SyncPhase, first, next, streaming, Client, kept, notice_of}
 use Rattle.reflector.specs.Items.{Response, begun, page, line, over, unexpected, said_of_watch}
 use Rattle.reflector.specs.Run.{relisting, moved, with_line, with_watch, with_item, receives, receives_all}
-use Rattle.reflector.specs.FollowsLaws.{Server, IsCache, IsSyncTenable, IsReplyTo, Follows, FollowsFrom}
+use Rattle.reflector.specs.FollowsLaws.{Server, IsCacheOf, IsSyncSound, IsReplyTo, Follows, FollowsFrom}
 use Rattle.reflector.proofs.Follows.{items_received}
 
 -- a client that asks nothing hears nothing
@@ -66,7 +66,7 @@ all_stay wanted c [] is e = is
 all_stay wanted c (x ∷ xs) is e = all_stay wanted (receives wanted c x) xs (step_stays wanted c x is (was_awaiting_reply wanted (receives wanted c x) xs e)) e
 
 -- what a watch that goes on has reached
-at_end : (server : Server) (wanted : Wanted) (n : ℕ) (sync : SyncPhase) (cache : Option Cache) (p : ℕ) → sync ≡ streaming → IsCache server n cache → IsSyncTenable server n sync cache
+at_end : (server : Server) (wanted : Wanted) (n : ℕ) (sync : SyncPhase) (cache : Option Cache) (p : ℕ) → sync ≡ streaming → IsCacheOf server n cache → IsSyncSound server n sync cache
     → IsReplyTo server wanted n sync cache [] p → kept cache ≡ server.at p
 at_end server wanted n first cache p is held asked comes = absurd cc
 at_end server wanted n (next r token paged_list) cache p is held asked comes = absurd cc

@@ -9,9 +9,9 @@ use Rattle.wireclient.specs.Reply.{ReplyItem}
 use Rattle.decoder.specs.Wanted.{Wanted}
 use Rattle.decoder.specs.Lines.{Line, put, deleted, bookmark, error}
 use Rattle.reflector.specs.Client.{place_in, max_objects, SyncPhase, first, next, streaming, Cache, Client, notice_of}
-use Rattle.reflector.specs.ReceivedViews.{is_streaming, page_reason_behind, with_page_behind}
+use Rattle.reflector.specs.ReceivedViews.{is_streaming, page_reason_after, with_page_after}
 use Rattle.reflector.specs.Items.{Response, line, over, said_of_list, said_of_watch}
-use Rattle.reflector.specs.Run.{relisting, moved, over_at, with_list, with_watch, with_item, receives, receives_all}
+use Rattle.reflector.specs.Run.{relisting, moved, after_watch_end, with_list, with_watch, with_item, receives, receives_all}
 use Rattle.reflector.specs.RelistReasons.{item_reason, line_reason, list_item_reason, watch_item_reason, relist_reason_with}
 use Rattle.reflector.specs.declared.relist_reason.RelistReason.{RelistReason}
 use Rattle.reflector.specs.declared.relist_reason.RelistReason.TheVariants.{TooManyObjects, StaleEvent, StaleBookmark}
@@ -55,7 +55,7 @@ pub broken_line : (c : Client) → c.is_awaiting_reply ≡ true → (l : Line) (
 broken_line c awaiting_reply l broken is = let ends = (line_emitted c awaiting_reply c.cache l).0 (sym (ap is_some is)) in ap relisting ends ∙ sym ends
 
 -- a watch that ends
-pub ended_watch : (c : Client) (cache : Option Cache) → with_watch c cache over ≡ over_at c
+pub ended_watch : (c : Client) (cache : Option Cache) → with_watch c cache over ≡ after_watch_end c
 ended_watch c None = refl
 ended_watch c (Some now) = refl
 
@@ -67,7 +67,7 @@ module _ (wanted : Wanted) (c : Client) (x : ReplyItem) (P : Client → Option R
       subst (λ d. P d (relist_reason_with wanted c t x)) (sym (ap (λ b. cond b (with_item wanted c c.sync x) c) is))
       (subst (P (with_item wanted c c.sync x)) (sym (ap (λ b. cond b (item_reason wanted c.cache c.sync x) t) is)) h)
 
-  by_list : (a : SyncPhase) → is_streaming a ≡ false → P (with_list c (with_page_behind c a) (said_of_list wanted x)) (list_item_reason wanted (page_reason_behind a) x) → P (with_item wanted c a x) (item_reason wanted c.cache a x)
+  by_list : (a : SyncPhase) → is_streaming a ≡ false → P (with_list c (with_page_after c a) (said_of_list wanted x)) (list_item_reason wanted (page_reason_after a) x) → P (with_item wanted c a x) (item_reason wanted c.cache a x)
   by_list first is h = h
   by_list (next r token paged_list) is h = h
   by_list streaming is h = absurd (true≢false is)
@@ -75,10 +75,10 @@ module _ (wanted : Wanted) (c : Client) (x : ReplyItem) (P : Client → Option R
   by_watch : (a : SyncPhase) → streaming ≡ a → P (with_watch c c.cache (said_of_watch wanted x)) (watch_item_reason wanted c.cache x) → P (with_item wanted c a x) (item_reason wanted c.cache a x)
   by_watch a is h = subst (λ b. P (with_item wanted c b x) (item_reason wanted c.cache b x)) is h
 
-  pub of_listed : (n : Response) (u t : Option RelistReason) → c.is_awaiting_reply ≡ true → is_streaming c.sync ≡ false → n ≡ said_of_list wanted x → u ≡ list_item_reason wanted (page_reason_behind c.sync) x
-      → P (with_list c (with_page_behind c c.sync) n) u → P (receives wanted c x) (relist_reason_with wanted c t x)
+  pub of_listed : (n : Response) (u t : Option RelistReason) → c.is_awaiting_reply ≡ true → is_streaming c.sync ≡ false → n ≡ said_of_list wanted x → u ≡ list_item_reason wanted (page_reason_after c.sync) x
+      → P (with_list c (with_page_after c c.sync) n) u → P (receives wanted c x) (relist_reason_with wanted c t x)
   of_listed n u t awaiting_reply is said wrong h =
-      of_item_asked t awaiting_reply (by_list c.sync is (subst (λ m. P (with_list c (with_page_behind c c.sync) m) (list_item_reason wanted (page_reason_behind c.sync) x)) said (subst (P (with_list c (with_page_behind c c.sync) n)) wrong h)))
+      of_item_asked t awaiting_reply (by_list c.sync is (subst (λ m. P (with_list c (with_page_after c c.sync) m) (list_item_reason wanted (page_reason_after c.sync) x)) said (subst (P (with_list c (with_page_after c c.sync) n)) wrong h)))
 
   pub of_watched : (n : Response) (u t : Option RelistReason) → c.is_awaiting_reply ≡ true → c.sync ≡ streaming → n ≡ said_of_watch wanted x → u ≡ watch_item_reason wanted c.cache x
       → P (with_watch c c.cache n) u → P (receives wanted c x) (relist_reason_with wanted c t x)

@@ -13,7 +13,7 @@ use Rattle.decoder.specs.Pages.{Page, page_in}
 use Rattle.decoder.specs.Lines.{Line, line_in, put, deleted, bookmark, error}
 use Rattle.reflector.specs.Client.{place_in, max_objects, Cache, SyncPhase, first, next, streaming, Client, notice_of}
 use Rattle.reflector.specs.Items.{begun, line, unexpected, page_or_unfit, line_or_unfit, said_of_list, said_of_watch}
-use Rattle.reflector.specs.Run.{relisting, receives, receives_all, ascends_within_limit, moved, over_at, keep_paged, with_item, with_list, with_next, with_page, with_watch}
+use Rattle.reflector.specs.Run.{relisting, receives, receives_all, ascends_within_limit, moved, after_watch_end, keep_paged, with_item, with_list, with_next, with_page, with_watch}
 use Rattle.reflector.specs.RelistReasons.{body_reason, item_reason, line_reason, list_item_reason, next_page_reason, page_reason, text_reason, watch_item_reason, relist_reason_after, relist_reason_with}
 use Rattle.reflector.specs.declared.relist_reason.RelistReason.{RelistReason}
 use Rattle.reflector.specs.declared.relist_reason.RelistReason.TheVariants.{Status, MalformedHttp, NotAList, NotAWatch, InconsistentList, NotAscending, TooManyObjects, StaleEvent, StaleBookmark, ErrorEvent}
@@ -119,7 +119,7 @@ module _ (c : Client) (awaiting_reply : c.is_awaiting_reply ≡ true) where
   begins None false t = ends t
   begins (Some now) false t = ends t
 
-  over : over_at c ≡ relisting c → ⊥
+  over : after_watch_end c ≡ relisting c → ⊥
   over e = let h : streaming ≡ first = ap (λ (d : Client). d.sync) e in cc
 
   watch_emitted : (wanted : Wanted) (now : Option Cache) (x : ReplyItem) → IsEmitted (watch_item_reason wanted now x) (with_watch c now (said_of_watch wanted x))
@@ -127,8 +127,8 @@ module _ (c : Client) (awaiting_reply : c.is_awaiting_reply ≡ true) where
   watch_emitted wanted None (whole bytes) = ends NotAWatch
   watch_emitted wanted (Some now) (whole bytes) = ends NotAWatch
   watch_emitted wanted now (reply.line bytes) = text_emitted now (line_in wanted bytes)
-  watch_emitted wanted None end = goes_on (over_at c) over
-  watch_emitted wanted (Some now) end = goes_on (over_at c) over
+  watch_emitted wanted None end = goes_on (after_watch_end c) over
+  watch_emitted wanted (Some now) end = goes_on (after_watch_end c) over
   watch_emitted wanted None malformed = ends MalformedHttp
   watch_emitted wanted (Some now) malformed = ends MalformedHttp
 

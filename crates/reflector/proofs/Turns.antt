@@ -4,7 +4,7 @@ use Rattle.std.proofs.lemmas.List.{length-map}
 use Rattle.std.specs.FinMap.Entries.{is_sorted}
 use Rattle.indexer.specs.Objects.{place_cmp, Shared, shared_of}
 use Rattle.indexer.specs.declared.object.ObjectKey.{ObjectKey}
-use Rattle.reflector.specs.BetweenViews.{between, first_order, first_emitted, new_left, old_left}
+use Rattle.reflector.specs.BetweenViews.{between, first_order, first_notices, new_left, old_left}
 use Rattle.reflector.specs.Client.{Notice, by_place, place_in}
 use Rattle.reflector.specs.Views.{held_seen}
 use Rattle.reflector.proofs.Between.{snd, fst, step, old_first, new_first, nothing_emitted}
@@ -14,12 +14,12 @@ some_is : (o p : Ordering) → Some o ≡ Some p → o ≡ p
 some_is o p e = cc
 
 -- what is told of the first place, and of what is left then, is told of all
-turn : (o : Ordering) (xs ys : Entries) → first_order xs ys ≡ Some o → T (is_sorted place_cmp xs) → T (is_sorted place_cmp ys) → first_emitted o xs ys ++ between (old_left o xs) (new_left o ys) ≡ between xs ys
+turn : (o : Ordering) (xs ys : Entries) → first_order xs ys ≡ Some o → T (is_sorted place_cmp xs) → T (is_sorted place_cmp ys) → first_notices o xs ys ++ between (old_left o xs) (new_left o ys) ≡ between xs ys
 turn o [] [] is h k = absurd cc
 turn o [] (y ∷ ys) is h k =
-    subst (λ (p : Ordering). first_emitted p [] (y ∷ ys) ++ between (old_left p []) (new_left p (y ∷ ys)) ≡ between [] (y ∷ ys)) (some_is Greater o is) (sym (new_first y [] ys tt (fst _ _ k)))
+    subst (λ (p : Ordering). first_notices p [] (y ∷ ys) ++ between (old_left p []) (new_left p (y ∷ ys)) ≡ between [] (y ∷ ys)) (some_is Greater o is) (sym (new_first y [] ys tt (fst _ _ k)))
 turn o (x ∷ xs) [] is h k =
-    subst (λ (p : Ordering). first_emitted p (x ∷ xs) [] ++ between (old_left p (x ∷ xs)) (new_left p []) ≡ between (x ∷ xs) []) (some_is Less o is) (sym (old_first x xs [] (fst _ _ h) tt))
+    subst (λ (p : Ordering). first_notices p (x ∷ xs) [] ++ between (old_left p (x ∷ xs)) (new_left p []) ≡ between (x ∷ xs) []) (some_is Less o is) (sym (old_first x xs [] (fst _ _ h) tt))
 turn o (x ∷ xs) (y ∷ ys) is h k = step o x y xs ys (sym (some_is (place_cmp x.0 y.0) o is)) h k
 
 over : (xs ys : Entries) → first_order xs ys ≡ None → between xs ys ≡ []
@@ -77,13 +77,13 @@ fewer_left o old old_now new new_now is old_is new_is =
     omega (arith, left, olds, response, was, is_new)
 
 pub goes_on : (o : Ordering) (old old_now : List (ObjectKey × Shared)) (new new_now : List Shared) (emitted emitted_now some all : List Notice) → first_order (map held_seen old) (by_place (map shared_of new)) ≡ Some o
-    → some ≡ first_emitted o (map held_seen old) (by_place (map shared_of new)) → map held_seen old_now ≡ old_left o (map held_seen old) → by_place (map shared_of new_now) ≡ new_left o (by_place (map shared_of new))
+    → some ≡ first_notices o (map held_seen old) (by_place (map shared_of new)) → map held_seen old_now ≡ old_left o (map held_seen old) → by_place (map shared_of new_now) ≡ new_left o (by_place (map shared_of new))
     → is_sorted place_cmp (map held_seen old) ≡ true → is_sorted place_cmp (by_place (map shared_of new)) ≡ true → emitted_now ≡ emitted ++ some
     → emitted ++ between (map held_seen old) (by_place (map shared_of new)) ≡ all → emitted_now ++ between (map held_seen old_now) (by_place (map shared_of new_now)) ≡ all
 goes_on o old old_now new new_now emitted emitted_now some all is some_is_first old_is new_is old_sorted_is new_sorted_is notifies so_far =
     let xs : Entries = map held_seen old in
     let ys : Entries = by_place (map shared_of new) in
     ap (λ t. t ++ between (map held_seen old_now) (by_place (map shared_of new_now))) (notifies ∙ ap (λ ns. emitted ++ ns) some_is_first)
-    ∙ append_assoc emitted (first_emitted o xs ys) (between (map held_seen old_now) (by_place (map shared_of new_now)))
-    ∙ ap (λ r. emitted ++ r) (ap₂ (λ us vs. first_emitted o xs ys ++ between us vs) old_is new_is ∙ turn o xs ys is (subst T (sym old_sorted_is) tt) (subst T (sym new_sorted_is) tt))
+    ∙ append_assoc emitted (first_notices o xs ys) (between (map held_seen old_now) (by_place (map shared_of new_now)))
+    ∙ ap (λ r. emitted ++ r) (ap₂ (λ us vs. first_notices o xs ys ++ between us vs) old_is new_is ∙ turn o xs ys is (subst T (sym old_sorted_is) tt) (subst T (sym new_sorted_is) tt))
     ∙ so_far

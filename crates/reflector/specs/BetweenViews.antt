@@ -24,8 +24,8 @@ first_object [] = None
 first_object (x ∷ xs) = Some x.1
 
 -- the notices of the first place of both, by that order
-abbrev pub first_emitted : Ordering → List (Place × Stored) → List (Place × Stored) → List Notice
-first_emitted order before after =
+abbrev pub first_notices : Ordering → List (Place × Stored) → List (Place × Stored) → List Notice
+first_notices order before after =
     by_order order (notice_of (first_object before) None) (notice_of (first_object before) (first_object after)) (notice_of None (first_object after))
 
 -- what is left of each behind that place

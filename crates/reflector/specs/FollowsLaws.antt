@@ -18,19 +18,19 @@ pub record Server : Type 0 where
 -- ---- what the client keeps
 
 -- m is the highest revision that the client ever reported
-abbrev pub IsCache : Server → ℕ → Option Cache → Type 0
-IsCache server m None = ⊤
-IsCache server m (Some now) = (now.revision ≡ m) × (now.objects ≡ server.at now.revision)
+abbrev pub IsCacheOf : Server → ℕ → Option Cache → Type 0
+IsCacheOf server m None = ⊤
+IsCacheOf server m (Some now) = (now.revision ≡ m) × (now.objects ≡ server.at now.revision)
 
 -- with a token the first objects at the revision, behind which it goes on; else all of them
 abbrev pub IsPart : Server → ℕ → List Stored → Option (List ℕ) → Type 0
 IsPart server r objects None = fin.entries (server.at r) ≡ by_place objects
 IsPart server r objects (Some token) = (rest : List (Place × Stored)) × (fin.entries (server.at r) ≡ by_place objects ++ rest) × (server.continues r objects token ≡ true)
 
-abbrev pub IsSyncTenable : Server → ℕ → SyncPhase → Option Cache → Type 0
-IsSyncTenable server m first cache = ⊤
-IsSyncTenable server m (next r token paged_list) cache = (m ≤ r) × (r ≤ server.top) × IsPart server r paged_list (Some token)
-IsSyncTenable server m streaming cache = is_some cache ≡ true
+abbrev pub IsSyncSound : Server → ℕ → SyncPhase → Option Cache → Type 0
+IsSyncSound server m first cache = ⊤
+IsSyncSound server m (next r token paged_list) cache = (m ≤ r) × (r ≤ server.top) × IsPart server r paged_list (Some token)
+IsSyncSound server m streaming cache = is_some cache ≡ true
 
 -- ---- what is to come
 
@@ -75,8 +75,8 @@ IsReplyTo server wanted m streaming (Some now) xs p = IsWatchReply server wanted
 -- under way, and lead, of a watch, to p
 pub record Follows (server : Server) (wanted : Wanted) (m : ℕ) (c : Client) (xs : List ReplyItem) (p : ℕ) : Type 0 where
   pub low : m ≤ server.top
-  pub cache : IsCache server m c.cache
-  pub sync : IsSyncTenable server m c.sync c.cache
+  pub cache : IsCacheOf server m c.cache
+  pub sync : IsSyncSound server m c.sync c.cache
   pub coming : c.is_awaiting_reply ≡ true → IsReplyTo server wanted m c.sync c.cache xs p
 
 -- from some revision on, which is not below m

@@ -32,7 +32,7 @@ pub record SameSetup {I : Type 0} (old new : Informer I) : Type 0 where
   pub names : names_in new ≡ names_in old
 
 -- it keeps and asks what this client does, and this is why the last reply was given up, if it was
-pub record TracksButReader {I : Type 0} (keys : I → Stored → List (List ℕ)) (i : Informer I) (c : Client) (t : Option RelistReason) : Type 0 where
+pub record RepresentsExceptReader {I : Type 0} (keys : I → Stored → List (List ℕ)) (i : Informer I) (c : Client) (t : Option RelistReason) : Type 0 where
   pub mirror : MirrorRepresents keys i.mirror c
   pub sync : sync_of i.sync ≡ c.sync
   pub awaiting_reply : is_some (reader_of i.reply) ≡ c.is_awaiting_reply
@@ -40,7 +40,7 @@ pub record TracksButReader {I : Type 0} (keys : I → Stored → List (List ℕ)
 
 -- it is this client; of the reply to what it asks, if it asks, these bytes came, and they hold these items
 pub record InformerRepresents {I : Type 0} (keys : I → Stored → List (List ℕ)) (i : Informer I) (c : Client) (bytes : List ℕ) (emitted : List ReplyItem) : Type 0 where
-  pub kept : TracksButReader keys i c (relist_reason_in i)
+  pub kept : RepresentsExceptReader keys i c (relist_reason_in i)
   pub read : IsRead (reader_of i.reply) bytes emitted
 
 -- the request that is due: none while one is under way

@@ -28,9 +28,9 @@ is_streaming streaming = true
 is_streaming _ = false
 
 -- a page behind what is asked; of a client that follows, none is set aside
-abbrev pub with_page_behind : Client → SyncPhase → Page → Client
-with_page_behind c (next revision token paged_list) = with_next c revision paged_list
-with_page_behind c _ = with_page c []
+abbrev pub with_page_after : Client → SyncPhase → Page → Client
+with_page_after c (next revision token paged_list) = with_next c revision paged_list
+with_page_after c _ = with_page c []
 
 abbrev pub head_said : ℕ → Response
 head_said status = if status == 200 then begun else unexpected
@@ -41,9 +41,9 @@ ReceivedSome keys wanted m c items = (received : List ReplyItem) × (rest : List
 
 -- ---- what is wrong with it
 
-abbrev pub page_reason_behind : SyncPhase → Page → Option RelistReason
-page_reason_behind (next revision token paged_list) = next_page_reason revision paged_list
-page_reason_behind _ = page_reason []
+abbrev pub page_reason_after : SyncPhase → Page → Option RelistReason
+page_reason_after (next revision token paged_list) = next_page_reason revision paged_list
+page_reason_after _ = page_reason []
 
 abbrev pub list_relist_reason : (Page → Option RelistReason) → response.Response → Option RelistReason
 list_relist_reason rules said.Begun = None

@@ -47,8 +47,8 @@ OldSidesMatch o [] = ⊤
 OldSidesMatch o (n ∷ ns) = OldSideMatches o n × OldSidesMatch (with_notice o n) ns
 
 -- each object stands at its own namespace and name, and is what its text says
-abbrev pub AreRead : Wanted → Objects → Type 0
-AreRead wanted o = (p : Place) (s : Stored) → fin.get o p ≡ Some s → (place_in s ≡ p) × IsItsText wanted s
+abbrev pub MatchTheirTexts : Wanted → Objects → Type 0
+MatchTheirTexts wanted o = (p : Place) (s : Stored) → fin.get o p ≡ Some s → (place_in s ≡ p) × IsItsText wanted s
 
 -- what is set aside
 abbrev pub paged_list_in : SyncPhase → List Stored
@@ -57,8 +57,8 @@ paged_list_in (next revision token paged_list) = paged_list
 paged_list_in streaming = []
 
 -- so is each that the client keeps, and each that it has set aside
-pub record HasRead (wanted : Wanted) (c : Client) : Type 0 where
-  pub objects : AreRead wanted (kept c.cache)
+pub record KeepsTheirTexts (wanted : Wanted) (c : Client) : Type 0 where
+  pub objects : MatchTheirTexts wanted (kept c.cache)
   pub paged_list : AreTheirTexts wanted (paged_list_in c.sync)
 
 -- the notices since then, replayed on the objects of then, are the objects of now, and what was replaced or deleted is
@@ -68,7 +68,7 @@ pub record NotifiesSince (wanted : Wanted) (before now : Client) : Type 0 where
   pub waiting : now.notices ≡ before.notices ++ since
   pub replay : replayed (kept before.cache) since ≡ kept now.cache
   pub old : OldSidesMatch (kept before.cache) since
-  pub has_read : HasRead wanted now
+  pub has_read : KeepsTheirTexts wanted now
 
 -- the waiting notices lead from these objects to those of now
 abbrev pub LeadFrom : Objects → Client → Type 0

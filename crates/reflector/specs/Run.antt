@@ -72,14 +72,14 @@ with_list c on_page _ = relisting c
 abbrev pub with_next : Client → ℕ → List Stored → Page → Client
 with_next c revision paged_list p = if nat_eq p.revision revision then with_page c paged_list p else relisting c
 
-abbrev pub over_at : Client → Client
-over_at c = record c { sync = streaming; is_awaiting_reply = false }
+abbrev pub after_watch_end : Client → Client
+after_watch_end c = record c { sync = streaming; is_awaiting_reply = false }
 
 abbrev pub with_watch : Client → Option Cache → Response → Client
 with_watch c now begun = c
 with_watch c None (line l) = relisting c
 with_watch c (Some now) (line l) = with_line c now l
-with_watch c now over = over_at c
+with_watch c now over = after_watch_end c
 with_watch c now (page p) = relisting c
 with_watch c now unexpected = relisting c
 

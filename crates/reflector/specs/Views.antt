@@ -38,9 +38,9 @@ abbrev pub held_seen : ObjectKey × Shared → Place × Stored
 held_seen e = (place_of e.0, shared_of e.1)
 
 -- none or one
-abbrev pub emitted_of : Option notices.Notice → List Notice
-emitted_of None = []
-emitted_of (Some n) = notice_seen n ∷ []
+abbrev pub notice_list : Option notices.Notice → List Notice
+notice_list None = []
+notice_list (Some n) = notice_seen n ∷ []
 
 -- the object that an indexer holds at a place, without its keys
 abbrev pub object_in : IndexedObjects → Place → Option Stored

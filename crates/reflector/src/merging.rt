@@ -3,9 +3,9 @@
 ghost use Rattle.std.specs.Prelude.{◌≡◌, ◌+◌, ◌++◌, ◌≤◌, true, drop, map, option_map, vec_capacity, vec_len};
 ghost use Rattle.std.specs.FinMap as fin;
 ghost use Rattle.indexer.specs.Objects.{place_cmp, place_of, place_of_object, shared_of};
-ghost use Rattle.reflector.specs.BetweenViews.{between, first_object, first_order, first_emitted, new_left, old_left};
+ghost use Rattle.reflector.specs.BetweenViews.{between, first_object, first_order, first_notices, new_left, old_left};
 ghost use Rattle.reflector.specs.Client.{by_place};
-ghost use Rattle.reflector.specs.Views.{held_seen, notice_seen, emitted_of};
+ghost use Rattle.reflector.specs.Views.{held_seen, notice_seen, notice_list};
 
 use crate::notice::{Notice, notice_at, notify};
 use indexer::{Object, ObjectKey};
@@ -58,7 +58,7 @@ fn pop_listed(new: &mut Listed) -> Option<Rc<Object>>
 
 /// Takes the first place off both; answers its notice.
 fn take_first(order: Ordering, old: &mut KeptObjects, new: &mut Listed) -> Option<Notice>
-    ensures emitted { emitted_of result ≡ first_emitted order (map held_seen old.old.items) (by_place (map shared_of new.old.items)) }
+    ensures emitted { notice_list result ≡ first_notices order (map held_seen old.old.items) (by_place (map shared_of new.old.items)) }
     ensures old { map held_seen old.new.items ≡ old_left order (map held_seen old.old.items) }
     ensures new { by_place (map shared_of new.new.items) ≡ new_left order (by_place (map shared_of new.old.items)) }
 {

@@ -3,7 +3,7 @@
 ghost use Rattle.std.specs.Prelude.{◌≡◌, ◌+◌, ◌++◌, ◌<◌, ◌≤◌, Some, None, map, option_map, vec_capacity, vec_len};
 ghost use Rattle.indexer.specs.Objects.{shared_of};
 ghost use Rattle.reflector.specs.Client.{notice_of};
-ghost use Rattle.reflector.specs.Views.{notice_seen, emitted_of};
+ghost use Rattle.reflector.specs.Views.{notice_seen, notice_list};
 
 use indexer::Object;
 use std::rc::Rc;
@@ -22,7 +22,7 @@ pub enum Notice {
 
 /// The notice where this object replaces what was there; none where the text is the same.
 pub(crate) fn put_notice(was: Option<Rc<Object>>, now: Rc<Object>) -> Option<Notice>
-    ensures { emitted_of result ≡ notice_of (option_map shared_of was) (Some (shared_of now)) }
+    ensures { notice_list result ≡ notice_of (option_map shared_of was) (Some (shared_of now)) }
 {
     match was {
         None => Some(Notice::Added(now)),
@@ -38,7 +38,7 @@ pub(crate) fn put_notice(was: Option<Rc<Object>>, now: Rc<Object>) -> Option<Not
 
 /// The notice where what was there is removed; none where nothing was there.
 pub(crate) fn removed_notice(was: Option<Rc<Object>>) -> Option<Notice>
-    ensures { emitted_of result ≡ notice_of (option_map shared_of was) None }
+    ensures { notice_list result ≡ notice_of (option_map shared_of was) None }
 {
     match was {
         None => None,
@@ -48,7 +48,7 @@ pub(crate) fn removed_notice(was: Option<Rc<Object>>) -> Option<Notice>
 
 /// The notice of one place: what stood there, and what stands there now.
 pub(crate) fn notice_at(was: Option<Rc<Object>>, now: Option<Rc<Object>>) -> Option<Notice>
-    ensures { emitted_of result ≡ notice_of (option_map shared_of was) (option_map shared_of now) }
+    ensures { notice_list result ≡ notice_of (option_map shared_of was) (option_map shared_of now) }
 {
     match now {
         Some(now) => put_notice(was, now),
@@ -59,7 +59,7 @@ pub(crate) fn notice_at(was: Option<Rc<Object>>, now: Option<Rc<Object>>) -> Opt
 /// Adds the notice, if there is one, for which there is room.
 pub(crate) fn notify(notices: &mut Vec<Notice>, notice: Option<Notice>)
     requires { vec_len notices.old < vec_capacity notices.old }
-    ensures emitted { map notice_seen notices.new.items ≡ map notice_seen notices.old.items ++ emitted_of notice }
+    ensures emitted { map notice_seen notices.new.items ≡ map notice_seen notices.old.items ++ notice_list notice }
     ensures one { vec_len notices.new ≤ vec_len notices.old + 1 }
     ensures capacity { vec_capacity notices.new ≡ vec_capacity notices.old }
 {

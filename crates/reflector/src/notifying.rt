@@ -26,7 +26,7 @@ impl<I: IndexBy> Mirror<I> {
         ensures held { OnOk result (indexed_objects_of self.new.indexer ≡ fin.insert (indexed_objects_of self.old.indexer) (place_of_object object.value) (shared_of object, map (λ b. I.keys b (shared_of object)) (indexes_of self.old.indexer))) }
         ensures emitted { OnOk result (map notice_seen self.new.notices.items ≡ map notice_seen self.old.notices.items ++ notice_of (object_in (indexed_objects_of self.old.indexer) (place_of_object object.value)) (Some (shared_of object))) }
         ensures kept { OnErr result (indexed_objects_of self.new.indexer ≡ indexed_objects_of self.old.indexer) }
-        ensures untold { OnErr result (self.new.notices.items ≡ self.old.notices.items) }
+        ensures unchanged { OnErr result (self.new.notices.items ≡ self.old.notices.items) }
         ensures revision { self.new.revision ≡ self.old.revision }
         ensures setup { SameIndexes self.old self.new }
     {
@@ -42,7 +42,7 @@ impl<I: IndexBy> Mirror<I> {
         ensures held { OnOk result (indexed_objects_of self.new.indexer ≡ fin.remove (indexed_objects_of self.old.indexer) (place_of key.now)) }
         ensures emitted { OnOk result (map notice_seen self.new.notices.items ≡ map notice_seen self.old.notices.items ++ notice_of (object_in (indexed_objects_of self.old.indexer) (place_of key.now)) None) }
         ensures kept { OnErr result (indexed_objects_of self.new.indexer ≡ indexed_objects_of self.old.indexer) }
-        ensures untold { OnErr result (self.new.notices.items ≡ self.old.notices.items) }
+        ensures unchanged { OnErr result (self.new.notices.items ≡ self.old.notices.items) }
         ensures revision { self.new.revision ≡ self.old.revision }
         ensures setup { SameIndexes self.old self.new }
     {
@@ -56,7 +56,7 @@ impl<I: IndexBy> Mirror<I> {
         ensures held { OnOk result (indexed_objects_of self.new.indexer ≡ put_all (λ o. map (λ b. I.keys b o) (indexes_of self.old.indexer)) (paged_list_of all) fin.empty) }
         ensures emitted { OnOk result (map notice_seen self.new.notices.items ≡ map notice_seen self.old.notices.items ++ between (objects_in (indexed_objects_of self.old.indexer)) (by_place (paged_list_of all))) }
         ensures kept { OnErr result (indexed_objects_of self.new.indexer ≡ indexed_objects_of self.old.indexer) }
-        ensures untold { OnErr result (self.new.notices.items ≡ self.old.notices.items) }
+        ensures unchanged { OnErr result (self.new.notices.items ≡ self.old.notices.items) }
         ensures revision { self.new.revision ≡ self.old.revision }
         ensures setup { SameIndexes self.old self.new }
     {

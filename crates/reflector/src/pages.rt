@@ -6,8 +6,8 @@ ghost use Rattle.indexer.specs.Objects.{shared_of};
 ghost use Rattle.decoder.specs.Views.{page_seen};
 ghost use Rattle.reflector.specs.PagedListViews.{paged_list_of};
 ghost use Rattle.reflector.specs.Client.{by_place, Client, max_objects};
-ghost use Rattle.reflector.specs.ReceivedViews.{page_reason_behind, with_page_behind};
-ghost use Rattle.reflector.specs.InformerViews.{TracksButReader, SameSetup};
+ghost use Rattle.reflector.specs.ReceivedViews.{page_reason_after, with_page_after};
+ghost use Rattle.reflector.specs.InformerViews.{RepresentsExceptReader, SameSetup};
 ghost use Rattle.reflector.specs.ReadingViews.{ReadsOn};
 ghost use Rattle.reflector.specs.Run.{listed, keep_paged, with_next, with_page};
 ghost use Rattle.reflector.specs.Views.{sync_of};
@@ -58,7 +58,7 @@ impl<I: IndexBy> Informer<I> {
         token: Option<String>,
         all: PagedList,
     ) -> Result<(), AllocError>
-        ensures taken { (c : Client) → MirrorRepresents I.keys self.old.mirror c → OnOk result (TracksButReader I.keys self.new (keep_paged c revision (paged_list_of all) (option_map string_bytes token)) None) }
+        ensures taken { (c : Client) → MirrorRepresents I.keys self.old.mirror c → OnOk result (RepresentsExceptReader I.keys self.new (keep_paged c revision (paged_list_of all) (option_map string_bytes token)) None) }
         ensures refused { (c : Client) → MirrorRepresents I.keys self.old.mirror c → OnErr result (MirrorRepresents I.keys self.new.mirror c) }
         ensures read { ReadsOn self.old.reply self.new.reply }
         ensures setup { SameSetup self.old self.new }
@@ -74,8 +74,8 @@ impl<I: IndexBy> Informer<I> {
     }
 
     /// Takes a page behind what is set aside.
-    fn take_behind(&mut self, paged_list: PagedList, page: Page) -> Result<(), AllocError>
-        ensures taken { (c : Client) → MirrorRepresents I.keys self.old.mirror c → OnOk result (TracksButReader I.keys self.new (with_page c (paged_list_of paged_list) (page_seen page)) (page_reason (paged_list_of paged_list) (page_seen page))) }
+    fn take_after(&mut self, paged_list: PagedList, page: Page) -> Result<(), AllocError>
+        ensures taken { (c : Client) → MirrorRepresents I.keys self.old.mirror c → OnOk result (RepresentsExceptReader I.keys self.new (with_page c (paged_list_of paged_list) (page_seen page)) (page_reason (paged_list_of paged_list) (page_seen page))) }
         ensures refused { (c : Client) → MirrorRepresents I.keys self.old.mirror c → OnErr result (MirrorRepresents I.keys self.new.mirror c) }
         ensures read { ReadsOn self.old.reply self.new.reply }
         ensures setup { SameSetup self.old self.new }
@@ -100,13 +100,13 @@ impl<I: IndexBy> Informer<I> {
         paged_list: PagedList,
         page: Page,
     ) -> Result<(), AllocError>
-        ensures taken { (c : Client) → MirrorRepresents I.keys self.old.mirror c → OnOk result (TracksButReader I.keys self.new (with_next c revision (paged_list_of paged_list) (page_seen page)) (next_page_reason revision (paged_list_of paged_list) (page_seen page))) }
+        ensures taken { (c : Client) → MirrorRepresents I.keys self.old.mirror c → OnOk result (RepresentsExceptReader I.keys self.new (with_next c revision (paged_list_of paged_list) (page_seen page)) (next_page_reason revision (paged_list_of paged_list) (page_seen page))) }
         ensures refused { (c : Client) → MirrorRepresents I.keys self.old.mirror c → OnErr result (MirrorRepresents I.keys self.new.mirror c) }
         ensures read { ReadsOn self.old.reply self.new.reply }
         ensures setup { SameSetup self.old self.new }
     {
         if page.revision == revision {
-            return self.take_behind(paged_list, page);
+            return self.take_after(paged_list, page);
         }
         self.give_up(RelistReason::InconsistentList);
         Ok(())
@@ -114,14 +114,14 @@ impl<I: IndexBy> Informer<I> {
 
     /// Takes a page of the list that is asked. Out of memory, what is kept stays.
     pub(crate) fn take_page(&mut self, page: Page) -> Result<(), AllocError>
-        ensures taken { (c : Client) → MirrorRepresents I.keys self.old.mirror c → OnOk result (TracksButReader I.keys self.new (with_page_behind c (sync_of self.old.sync) (page_seen page)) (page_reason_behind (sync_of self.old.sync) (page_seen page))) }
+        ensures taken { (c : Client) → MirrorRepresents I.keys self.old.mirror c → OnOk result (RepresentsExceptReader I.keys self.new (with_page_after c (sync_of self.old.sync) (page_seen page)) (page_reason_after (sync_of self.old.sync) (page_seen page))) }
         ensures refused { (c : Client) → MirrorRepresents I.keys self.old.mirror c → OnErr result (MirrorRepresents I.keys self.new.mirror c) }
         ensures read { ReadsOn self.old.reply self.new.reply }
         ensures setup { SameSetup self.old self.new }
     {
         match mem::replace(&mut self.sync, SyncPhase::First) {
             SyncPhase::Next(revision, _, paged_list) => self.take_next(revision, paged_list, page),
-            SyncPhase::First | SyncPhase::Streaming => self.take_behind(
+            SyncPhase::First | SyncPhase::Streaming => self.take_after(
                 PagedList::new(self.alloc),
                 page,
             ),

@@ -7,8 +7,8 @@ ghost use Rattle.wireclient.specs.Reply.{ReplyItem};
 ghost use Rattle.wireclient.specs.Views.{reply_item_of};
 ghost use Rattle.decoder.specs.Views.{line_seen};
 ghost use Rattle.reflector.specs.Client.{Client, streaming};
-ghost use Rattle.reflector.specs.ReceivedViews.{ReceivedSome, list_relist_reason, response_of, page_reason_behind, watch_relist_reason, with_page_behind};
-ghost use Rattle.reflector.specs.InformerViews.{TracksButReader, InformerRepresents, SameSetup, settings_in, relist_reason_in};
+ghost use Rattle.reflector.specs.ReceivedViews.{ReceivedSome, list_relist_reason, response_of, page_reason_after, watch_relist_reason, with_page_after};
+ghost use Rattle.reflector.specs.InformerViews.{RepresentsExceptReader, InformerRepresents, SameSetup, settings_in, relist_reason_in};
 ghost use Rattle.reflector.specs.Items as items;
 ghost use Rattle.reflector.specs.ReadingViews.{AreReceived, IsRead, ReadsOn, reader_of};
 ghost use Rattle.reflector.specs.Run.{relisting, receives, receives_all, with_list, with_watch};
@@ -40,7 +40,7 @@ fn read(reader: &mut ReplyReader, piece: &[u8]) -> Result<Vec<Item>, AllocError>
 impl<I: IndexBy> Informer<I> {
     /// The reply is given up, and a first page is asked next.
     pub(crate) fn give_up(&mut self, relist_reason: RelistReason)
-        ensures given_up { (c : Client) → MirrorRepresents I.keys self.old.mirror c → TracksButReader I.keys self.new (relisting c) (Some relist_reason) }
+        ensures given_up { (c : Client) → MirrorRepresents I.keys self.old.mirror c → RepresentsExceptReader I.keys self.new (relisting c) (Some relist_reason) }
         ensures relist_reason { relist_reason_in self.new ≡ Some relist_reason }
         ensures read { ReadsOn self.old.reply self.new.reply }
         ensures setup { SameSetup self.old self.new }
@@ -51,7 +51,7 @@ impl<I: IndexBy> Informer<I> {
 
     /// The reply has brought all that was asked, and this is asked next.
     pub(crate) fn ask_next(&mut self, next: SyncPhase)
-        ensures kept { (c : Client) → MirrorRepresents I.keys self.old.mirror c → sync_of next ≡ c.sync → c.is_awaiting_reply ≡ false → TracksButReader I.keys self.new c None }
+        ensures kept { (c : Client) → MirrorRepresents I.keys self.old.mirror c → sync_of next ≡ c.sync → c.is_awaiting_reply ≡ false → RepresentsExceptReader I.keys self.new c None }
         ensures read { ReadsOn self.old.reply self.new.reply }
         ensures setup { SameSetup self.old self.new }
     {
@@ -60,8 +60,8 @@ impl<I: IndexBy> Informer<I> {
     }
 
     fn receive_list(&mut self, response: Response) -> Result<(), AllocError>
-        ensures received { (c : Client) → TracksButReader I.keys self.old c None
-            → OnOk result (TracksButReader I.keys self.new (with_list c (with_page_behind c c.sync) (response_of response)) (list_relist_reason (page_reason_behind c.sync) response)) }
+        ensures received { (c : Client) → RepresentsExceptReader I.keys self.old c None
+            → OnOk result (RepresentsExceptReader I.keys self.new (with_list c (with_page_after c c.sync) (response_of response)) (list_relist_reason (page_reason_after c.sync) response)) }
         ensures refused { (c : Client) → MirrorRepresents I.keys self.old.mirror c → OnErr result (MirrorRepresents I.keys self.new.mirror c) }
         ensures read { ReadsOn self.old.reply self.new.reply }
         ensures setup { SameSetup self.old self.new }
@@ -77,8 +77,8 @@ impl<I: IndexBy> Informer<I> {
 
     /// Takes a watch's line; the reply is given up, if it breaks a rule.
     fn receive_line(&mut self, line: Line) -> Result<(), AllocError>
-        ensures received { (c : Client) → TracksButReader I.keys self.old c None → c.sync ≡ streaming → c.is_awaiting_reply ≡ true
-            → OnOk result (TracksButReader I.keys self.new (with_watch c c.cache (items.line (line_seen line))) (line_reason c.cache (line_seen line))) }
+        ensures received { (c : Client) → RepresentsExceptReader I.keys self.old c None → c.sync ≡ streaming → c.is_awaiting_reply ≡ true
+            → OnOk result (RepresentsExceptReader I.keys self.new (with_watch c c.cache (items.line (line_seen line))) (line_reason c.cache (line_seen line))) }
         ensures refused { (c : Client) → MirrorRepresents I.keys self.old.mirror c → OnErr result (MirrorRepresents I.keys self.new.mirror c) }
         ensures read { ReadsOn self.old.reply self.new.reply }
         ensures setup { SameSetup self.old self.new }
@@ -90,8 +90,8 @@ impl<I: IndexBy> Informer<I> {
     }
 
     fn receive_watch(&mut self, response: Response) -> Result<(), AllocError>
-        ensures received { (c : Client) → TracksButReader I.keys self.old c None → c.sync ≡ streaming → c.is_awaiting_reply ≡ true
-            → OnOk result (TracksButReader I.keys self.new (with_watch c c.cache (response_of response)) (watch_relist_reason c.cache response)) }
+        ensures received { (c : Client) → RepresentsExceptReader I.keys self.old c None → c.sync ≡ streaming → c.is_awaiting_reply ≡ true
+            → OnOk result (RepresentsExceptReader I.keys self.new (with_watch c c.cache (response_of response)) (watch_relist_reason c.cache response)) }
         ensures refused { (c : Client) → MirrorRepresents I.keys self.old.mirror c → OnErr result (MirrorRepresents I.keys self.new.mirror c) }
         ensures read { ReadsOn self.old.reply self.new.reply }
         ensures setup { SameSetup self.old self.new }
@@ -116,8 +116,8 @@ impl<I: IndexBy> Informer<I> {
 
     /// Takes an item of the reply, if it is still under way. Out of memory, what is kept stays.
     fn receive(&mut self, item: &Item) -> Result<(), AllocError>
-        ensures received { (c : Client) (t : Option RelistReason) → TracksButReader I.keys self.old c t
-            → OnOk result (TracksButReader I.keys self.new (receives (settings_in self.old).wanted c (reply_item_of item.now)) (relist_reason_with (settings_in self.old).wanted c t (reply_item_of item.now))) }
+        ensures received { (c : Client) (t : Option RelistReason) → RepresentsExceptReader I.keys self.old c t
+            → OnOk result (RepresentsExceptReader I.keys self.new (receives (settings_in self.old).wanted c (reply_item_of item.now)) (relist_reason_with (settings_in self.old).wanted c t (reply_item_of item.now))) }
         ensures refused { (c : Client) → MirrorRepresents I.keys self.old.mirror c → OnErr result (MirrorRepresents I.keys self.new.mirror c) }
         ensures read { ReadsOn self.old.reply self.new.reply }
         ensures setup { SameSetup self.old self.new }
@@ -135,9 +135,9 @@ impl<I: IndexBy> Informer<I> {
 
     /// Takes the items of a reply, one after the other. Refused, it has taken some of them, each whole or not at all.
     fn receive_all(&mut self, items: &[Item]) -> Result<(), AllocError>
-        ensures received { (c : Client) (t : Option RelistReason) → TracksButReader I.keys self.old c t
-            → OnOk result (TracksButReader I.keys self.new (receives_all (settings_in self.old).wanted c (map reply_item_of items.now)) (relist_reason_after (settings_in self.old).wanted c t (map reply_item_of items.now))) }
-        ensures some { (c : Client) (t : Option RelistReason) → TracksButReader I.keys self.old c t → OnErr result (ReceivedSome I.keys (settings_in self.old).wanted self.new.mirror c (map reply_item_of items.now)) }
+        ensures received { (c : Client) (t : Option RelistReason) → RepresentsExceptReader I.keys self.old c t
+            → OnOk result (RepresentsExceptReader I.keys self.new (receives_all (settings_in self.old).wanted c (map reply_item_of items.now)) (relist_reason_after (settings_in self.old).wanted c t (map reply_item_of items.now))) }
+        ensures some { (c : Client) (t : Option RelistReason) → RepresentsExceptReader I.keys self.old c t → OnErr result (ReceivedSome I.keys (settings_in self.old).wanted self.new.mirror c (map reply_item_of items.now)) }
         ensures read { ReadsOn self.old.reply self.new.reply }
         ensures setup { SameSetup self.old self.new }
     {
@@ -152,7 +152,7 @@ impl<I: IndexBy> Informer<I> {
     pub(crate) fn receive_piece(&mut self, piece: &[u8]) -> Result<(), AllocError>
         ensures received { (c : Client) (bytes : List ℕ) (emitted : List ReplyItem) → InformerRepresents I.keys self.old c bytes emitted → c.is_awaiting_reply ≡ true
             → OnOk result ((response : List ReplyItem) × IsRead (reader_of self.new.reply) (bytes ++ piece.now) (emitted ++ response) × Items (bytes ++ piece.now) (emitted ++ response)
-            × TracksButReader I.keys self.new (receives_all (settings_in self.old).wanted c response) (relist_reason_after (settings_in self.old).wanted c None response)) }
+            × RepresentsExceptReader I.keys self.new (receives_all (settings_in self.old).wanted c response) (relist_reason_after (settings_in self.old).wanted c None response)) }
         ensures idle { (c : Client) (bytes : List ℕ) (emitted : List ReplyItem) → InformerRepresents I.keys self.old c bytes emitted → c.is_awaiting_reply ≡ false → (result ≡ Ok tt) × (self.new ≡ self.old) }
         ensures some { (c : Client) (bytes : List ℕ) (emitted : List ReplyItem) → InformerRepresents I.keys self.old c bytes emitted
             → OnErr result ((received : List ReplyItem) × AreReceived bytes emitted piece.now received × MirrorRepresents I.keys self.new.mirror (receives_all (settings_in self.old).wanted c received)) }

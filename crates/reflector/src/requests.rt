@@ -68,7 +68,7 @@ fn append_token(query: &mut Serializer, token: Option<&str>) -> Result<(), Alloc
     Ok(())
 }
 
-fn query_of_limit(alloc: Global, page: u32) -> Result<Serializer, AllocError>
+fn begin_list_query(alloc: Global, page: u32) -> Result<Serializer, AllocError>
     ensures prefix { IfOk result (λ q. q.prefix ≡ []) }
     ensures form { IfOk result (λ q. q.form ≡ append_pair [] (codes "limit") (decimal page)) }
 {
@@ -80,13 +80,13 @@ fn query_of_limit(alloc: Global, page: u32) -> Result<Serializer, AllocError>
 fn list_query(alloc: Global, settings: &Settings, token: Option<&str>) -> Result<String, AllocError>
     ensures { IfOk result (λ s. string_bytes s ≡ list_query (settings_of settings.now) (option_map (λ t. t.now) token.entry)) }
 {
-    let mut query = query_of_limit(alloc, settings.page)?;
+    let mut query = begin_list_query(alloc, settings.page)?;
     append_token(&mut query, token)?;
     append_selector(&mut query, settings.selector.as_str())?;
     Ok(query.finish())
 }
 
-fn query_of_watch(alloc: Global, revision: u64) -> Result<Serializer, AllocError>
+fn begin_watch_query(alloc: Global, revision: u64) -> Result<Serializer, AllocError>
     ensures prefix { IfOk result (λ q. q.prefix ≡ []) }
     ensures form { IfOk result (λ q. q.form ≡ append_pair (append_pair [] (codes "watch") (codes "true")) (codes "resourceVersion") (decimal revision)) }
 {
@@ -107,7 +107,7 @@ fn append_bookmarks(query: &mut Serializer) -> Result<(), AllocError>
 fn watch_query(alloc: Global, settings: &Settings, revision: u64) -> Result<String, AllocError>
     ensures { IfOk result (λ s. string_bytes s ≡ watch_query (settings_of settings.now) revision) }
 {
-    let mut query = query_of_watch(alloc, revision)?;
+    let mut query = begin_watch_query(alloc, revision)?;
     append_bookmarks(&mut query)?;
     append_selector(&mut query, settings.selector.as_str())?;
     Ok(query.finish())

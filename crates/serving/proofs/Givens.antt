@@ -11,7 +11,7 @@ use Rattle.history.specs.History.{History}
 use Rattle.verbs.specs.Retyping.{retyping}
 use Rattle.verbs.specs.Step.{planned}
 use Rattle.requests.specs.Asks.{CallDecision}
-use Rattle.httpedge.specs.Connections.{Connection, Connections, Phase, waiting, watching, ended, gone, each, has_ended, is_new, is_open, left_out, new_connection, out_of, out_on, with_phase, with_taken, with_written}
+use Rattle.httpedge.specs.Connections.{Connection, Connections, Phase, waiting, watching, ended, gone, each, has_ended, is_new, is_open, untaken_in, new_connection, out_of, out_on, with_phase, with_taken, with_written}
 use Rattle.requests.specs.Decision.{undecided, refused, accepted}
 use Rattle.requests.specs.Refusals.{as_denied, too_many_connections}
 use Rattle.httpedge.specs.Runs.{Follows, Action, happens, runs_out_of_memory, takes}
@@ -166,7 +166,7 @@ prefix_taken taken n written given rest out counts is outs =
     let same : rest ≡ out = sym (ap₂ drop counts is ∙ drop-append_seam given rest) ∙ outs in
     (drop n out, is ∙ ap (λ (r : List ℕ). given ++ r) (same ∙ sym (take-append-drop n out)) ∙ sym (append_assoc given (take n out) (drop n out)))
 
-rest_taken : (st : Phase) (taken n : ℕ) (written given rest out : List ℕ) → taken ≡ length given → written ≡ given ++ rest → left_out st (drop taken written) ≡ out
+rest_taken : (st : Phase) (taken n : ℕ) (written given rest out : List ℕ) → taken ≡ length given → written ≡ given ++ rest → untaken_in st (drop taken written) ≡ out
     → (more : List ℕ) × (written ≡ (given ++ take n out) ++ more)
 rest_taken (waiting prefix) taken n written given rest out counts is outs = prefix_taken taken n written given rest out counts is outs
 rest_taken (watching w) taken n written given rest out counts is outs = prefix_taken taken n written given rest out counts is outs

@@ -18,7 +18,7 @@ use Rattle.ownership.specs.Carry.{Carries, carried_state}
 use Rattle.ownership.specs.Sides.{OwnSides}
 use Rattle.ownership.proofs.CarriedStates.{carried_carries, carried_same}
 use Rattle.verbs.specs.Machine.{IsSomeTextAt, IsTextOf, identity_of, decoded_state}
-use Rattle.verbs.specs.Retyping.{carried_text, is_changed, text_unchanged, text_under}
+use Rattle.verbs.specs.Retyping.{carried_text, is_changed, text_unchanged, carried_text_at}
 use Rattle.verbs.proofs.Said.{printed_is_text, said_back, text_is}
 
 not_false : (b : Bool) → not b ≡ false → b ≡ true
@@ -80,7 +80,7 @@ module _ (types next_types : List ServedShape) (k : Key) (o : Object) (t u : Ser
   carry : Carries t.shape u.shape (decoded_state t.shape o.body) (carried_state t.shape u.shape (decoded_state t.shape o.body))
   carry = carried_carries t.shape u.shape (decoded_state t.shape o.body) old new (shape_may t u may) well_typed
 
-  pub under : (r : ℕ) → text_under types next_types r k o ≡ Some (carried_text t u r k o)
+  pub under : (r : ℕ) → carried_text_at types next_types r k o ≡ Some (carried_text t u r k o)
   under r = ap₂ (λ a b. option_and_then (λ x. option_map (λ y. carried_text x y r k o) b) a) was now
 
   new_says : (r : ℕ) → r ≤ last_revision → IsObjectText u.shape (identity_of u k) r (carried_state t.shape u.shape (decoded_state t.shape o.body)) (carried_text t u r k o)
@@ -101,7 +101,7 @@ module _ (types next_types : List ServedShape) (k : Key) (o : Object) (t u : Ser
   pub text_stays : is_changed types next_types (k, o) ≡ false → carried_text t u o.revision k o ≡ o.body
   text_stays h =
       (bytes_eq-Decides (carried_text t u o.revision k o) o.body).0
-      (ap (λ x. text_unchanged x o.body) (sym (under o.revision)) ∙ not_false (text_unchanged (text_under types next_types o.revision k o) o.body) h)
+      (ap (λ x. text_unchanged x o.body) (sym (under o.revision)) ∙ not_false (text_unchanged (carried_text_at types next_types o.revision k o) o.body) h)
 
 -- under its own type it is the same
 pub same_text : (types : List ServedShape) (k : Key) (o : Object) (t : ServedShape) → slice_get types k.kind ≡ Some t → IsObjectShape t.shape → IsTextOf t k o.revision o.body → is_changed types types (k, o) ≡ false

@@ -30,7 +30,7 @@ use Rattle.verbs.specs.PromiseLaws.{IsCalled, name_called}
 use Rattle.verbs.specs.Views.{objects_in}
 use Rattle.api_validation.specs.Size.{size_validated}
 use Rattle.watchline.specs.Watches.{HistoryWindow, from_view}
-use Rattle.verbs.specs.Step.{Creation, Intent, apply_plan, at_path, body_of, created_as, creation_validated, delete_plan, deleted_over, get_plan, intent_of, dispatch_type, dispatch_scope, dispatch_call, plan_without_change, key_at, manager_for, require_absent, dispatch_object, plan_for, planned_over, ownership_validated, printed, revisions_left, plan_put, plan_put_unless_same, require_found, require_object_of_status, update_plan, updated_by, updated_over, version_checked, version_reached, collection_of, list_answered, list_plan, shown_by}
+use Rattle.verbs.specs.Step.{Creation, Intent, apply_plan, at_path, body_of, created_as, creation_validated, delete_plan, deleted_over, get_plan, intent_of, dispatch_type, dispatch_scope, dispatch_call, plan_without_change, key_at, manager_for, require_absent, dispatch_object, plan_for, planned_over, ownership_validated, object_value_at, revisions_left, plan_put, plan_put_unless_same, require_found, require_object_of_status, update_plan, updated_by, updated_over, version_checked, version_reached, collection_of, list_answered, list_plan, shown_by}
 use Rattle.api_request.proofs.Checks.{change_in, no_err, ok_is, passed}
 
 -- and its key is one of those that Q says
@@ -49,7 +49,7 @@ name_is (Some n) name e = ap Some (ok_is n name e)
 module _ (current : ℕ) (objects : Objects) (Q : Key → Type 0) where
   stored_fits : (t : ServedShape) (k : Key) (status : ℕ) (s : State) (p : Plan) → Q k → plan_put t current k status s ≡ Ok p → Fits current objects Q p.change
   stored_fits t k status s p own e =
-      let sized = passed (size_validated (printed t k (suc current) s)) _ p e in
+      let sized = passed (size_validated (object_value_at t k (suc current) s)) _ p e in
       let left = passed (revisions_left current) _ p sized.2 in
       subst (Fits current objects Q) (ap change_in left.2) (refl, (λ gone. no_some _ gone), own)
 

@@ -23,7 +23,7 @@ use Rattle.ownership.specs.Carry.{carried_state}
 use Rattle.verbs.specs.declared.fault.RetypeFault.{RetypeFault}
 use Rattle.verbs.specs.GatheredViews.{AreReadable, AreWritable, IsReadableEntry, IsTooMany, carried_at, gathered}
 use Rattle.verbs.specs.Machine.{AreTexts, IsReadable, identity_of, decoded_state}
-use Rattle.verbs.specs.Retyping.{RetypeRefusal, is_changed, text_unchanged, text_under, too_few_revisions, writes_from}
+use Rattle.verbs.specs.Retyping.{RetypeRefusal, is_changed, text_unchanged, carried_text_at, too_few_revisions, writes_from}
 use Rattle.verbs.specs.Views.{retype_refusal}
 use Rattle.verbs.specs.Step.{text_at}
 use Rattle.verbs.proofs.Changes.{all_push}
@@ -58,7 +58,7 @@ has_new_type (Some x) (Some u) body new is none = no_some u (sym none)
 
 module _ (types next_types : List ServedShape) (e : Key × Object) (new : State) (u : ServedShape) (carries : carried_at types next_types e ≡ Some new) (there : slice_get next_types e.0.kind ≡ Some u) where
   -- its text under its new type
-  pub text_is : (r : ℕ) → text_under types next_types r e.0 e.1 ≡ Some (text_at u e.0 r new)
+  pub text_is : (r : ℕ) → carried_text_at types next_types r e.0 e.1 ≡ Some (text_at u e.0 r new)
   text_is r = go (slice_get types e.0.kind) (slice_get next_types e.0.kind) carries there
     where
       go : (a b : Option ServedShape) → option_and_then (λ x. option_map (λ v. carried_state x.shape v.shape (decoded_state x.shape e.1.body)) b) a ≡ Some new → b ≡ Some u
@@ -111,7 +111,7 @@ module _ (types next_types : List ServedShape) where
   writes_append r [] fs = let same : r ≡ r + 0 = omega arith in ap (λ (n : ℕ). writes_from types next_types n fs) same
   writes_append r (e ∷ es) fs =
       let same : suc r + length es ≡ r + suc (length es) = omega arith in
-      ap (λ ws. (e.0, text_under types next_types (suc r) e.0 e.1) ∷ ws)
+      ap (λ ws. (e.0, carried_text_at types next_types (suc r) e.0 e.1) ∷ ws)
       (writes_append (suc r) es fs ∙ ap (λ (n : ℕ). writes_from types next_types (suc r) es ++ writes_from types next_types n fs) same)
 
   pub gathered_length : (r : ℕ) (es : Entries) → length (Gathered r es) ≡ length (filter (is_changed types next_types) es)
@@ -123,7 +123,7 @@ module _ (types next_types : List ServedShape) where
       ∙ writes_append r (filter (is_changed types next_types) es) (filter (is_changed types next_types) fs)
       ∙ ap (λ (n : ℕ). Gathered r es ++ writes_from types next_types (r + n) (filter (is_changed types next_types) fs)) (sym (gathered_length r es))
 
-  gathered_one : (r : ℕ) (e : Key × Object) (b : Bool) → is_changed types next_types e ≡ b → Gathered r (e ∷ []) ≡ cond b ((e.0, text_under types next_types (suc r) e.0 e.1) ∷ []) []
+  gathered_one : (r : ℕ) (e : Key × Object) (b : Bool) → is_changed types next_types e ≡ b → Gathered r (e ∷ []) ≡ cond b ((e.0, carried_text_at types next_types (suc r) e.0 e.1) ∷ []) []
   gathered_one r e true is = ap (λ b. writes_from types next_types r (cond b (e ∷ []) [])) is
   gathered_one r e false is = ap (λ b. writes_from types next_types r (cond b (e ∷ []) [])) is
 
@@ -132,9 +132,9 @@ module _ (types next_types : List ServedShape) where
   one_stays r ws e is = sym (ap (λ l. ws ++ l) (gathered_one r e false is) ∙ append-nil ws)
 
   -- and else its new text
-  pub one_changes : (r next : ℕ) (e : Key × Object) (text : List ℕ) → next ≡ suc r → is_changed types next_types e ≡ true → text_under types next_types next e.0 e.1 ≡ Some text → Gathered r (e ∷ []) ≡ (e.0, Some text) ∷ []
+  pub one_changes : (r next : ℕ) (e : Key × Object) (text : List ℕ) → next ≡ suc r → is_changed types next_types e ≡ true → carried_text_at types next_types next e.0 e.1 ≡ Some text → Gathered r (e ∷ []) ≡ (e.0, Some text) ∷ []
   one_changes r next e text is changes said =
-      gathered_one r e true changes ∙ ap (λ o. (e.0, o) ∷ []) (ap (λ (n : ℕ). text_under types next_types n e.0 e.1) (sym is) ∙ said)
+      gathered_one r e true changes ∙ ap (λ o. (e.0, o) ∷ []) (ap (λ (n : ℕ). carried_text_at types next_types n e.0 e.1) (sym is) ∙ said)
 
   -- ---- one type after the other
 

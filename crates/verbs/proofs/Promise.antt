@@ -51,7 +51,7 @@ use Rattle.api_validation.specs.Parameters.{parameters_validated}
 use Rattle.verbs.specs.PromiseLaws.{AppliesKeepOthers, BodiesSayStates, ManagersOwnTheirSides, OthersKeepUnchanged, PlansAreShort, PlansComeNext, DecodesTo, StoredTextsDecode, StepsKeepMachines, TextsSayStates, UpdatesTakeChanges, WritesLeaveOtherSide}
 use Rattle.api_validation.specs.Size.{count_if_there, is_over, max_bytes, max_labels, size_validated}
 use Rattle.api_validation.specs.Shapes.{shape_validated}
-use Rattle.verbs.specs.Step.{Intent, applied_over, apply_plan, at_path, body_of, manager_for, conflict_refusal, Creation, created_as, creation_validated, delete_plan, deleted_over, get_plan, intent_of, object_at, dispatch_type, dispatch_scope, dispatch_call, plan_without_change, key_at, require_absent, dispatch_object, ownership_validated, planned, printed, revisions_left, plan_put, plan_put_unless_same, text_at, require_found, require_object_of_status, plan_for, step, update_plan, updated_by, updated_over, version_checked, version_reached, collection_of, list_answered, list_plan, shown_by}
+use Rattle.verbs.specs.Step.{Intent, applied_over, apply_plan, at_path, body_of, manager_for, conflict_refusal, Creation, created_as, creation_validated, delete_plan, deleted_over, get_plan, intent_of, object_at, dispatch_type, dispatch_scope, dispatch_call, plan_without_change, key_at, require_absent, dispatch_object, ownership_validated, planned, object_value_at, revisions_left, plan_put, plan_put_unless_same, text_at, require_found, require_object_of_status, plan_for, step, update_plan, updated_by, updated_over, version_checked, version_reached, collection_of, list_answered, list_plan, shown_by}
 use Rattle.watchline.specs.Watches.{HistoryWindow, from_history}
 use Rattle.verbs.proofs.Changes.{machine_next, current_objects_next, texts_at}
 use Rattle.api_request.proofs.Checks.{change_in, held, no_err, ok_is, passed}
@@ -96,10 +96,10 @@ module _ (types : List ServedShape) (current : ℕ) (objects : Objects) (t : Ser
 
   stored_writes : (status : ℕ) (s : State) (p : Plan) → IsStored t s → R (state_of_existing t (fin.get objects k)) s → IsNamed k → plan_put t current k status s ≡ Ok p → WritesBy types current objects D R p.change
   stored_writes status s p well_typed keeps named e =
-      let sized = passed (size_validated (printed t k (suc current) s)) _ p e in
+      let sized = passed (size_validated (object_value_at t k (suc current) s)) _ p e in
       let left = passed (revisions_left current) _ p sized.2 in
       subst (WritesBy types current objects D R) (ap change_in left.2)
-      (refl, next_left current (ltb-true _ _ (held (nat_lt current last_revision) _ _ left.0 left.1)), (t, serves, s, well_typed, refl, subst (λ x. R x s) (sym under) keeps, short_enough (printed t k (suc current) s) sized.0 sized.1, named))
+      (refl, next_left current (ltb-true _ _ (held (nat_lt current last_revision) _ _ left.0 left.1)), (t, serves, s, well_typed, refl, subst (λ x. R x s) (sym under) keeps, short_enough (object_value_at t k (suc current) s) sized.0 sized.1, named))
 
   over_writes : (found : Option Object) (s : State) (p : Plan) → IsStored t s → R (state_of_existing t (fin.get objects k)) s → IsNamed k → plan_put_unless_same t current k found s ≡ Ok p → WritesBy types current objects D R p.change
   over_writes None s p well_typed keeps named e = stored_writes 201 s p well_typed keeps named e

@@ -24,7 +24,7 @@ use Rattle.objects.proofs.Taken.{same_some}
 use Rattle.ownership.specs.Carry.{carried_state}
 use Rattle.verbs.specs.Machine.{AreObjectTypes, AreTexts, IsMachine, IsOfTypes, IsSomeTextAt, IsTextAt, IsTextOf, state_by, state_of_existing, decoded_state, state_under}
 use Rattle.verbs.specs.PromiseLaws.{RetypingsCarryObjects, RetypingsKeepMachines, RetypingsLeaveTexts, SameTypesChangeNothing}
-use Rattle.verbs.specs.Retyping.{RetypeRefusal, carried_text, changed_objects, if_declared, if_compatible, if_left, is_changed, not_lawful, not_types, retyped, retyping, retyping_writes, text_under, too_few_revisions, writes_from}
+use Rattle.verbs.specs.Retyping.{RetypeRefusal, carried_text, changed_objects, if_declared, if_compatible, if_revisions_left, is_changed, not_lawful, not_types, retyped, retyping, retyping_writes, carried_text_at, too_few_revisions, writes_from}
 use Rattle.verbs.proofs.CarriedTexts.{new_text, new_type, same_text, says_carried, still_some_text, text_stays, under}
 use Rattle.verbs.proofs.Changes.{is_history}
 use Rattle.verbs.proofs.Rewritten.{Entries, HasText, IsWritten, StaysOrWritten, all_picked, all_stand, as_many, has_key, none_goes, not_picked, current_objects_all, stays_or_written}
@@ -66,7 +66,7 @@ module _ (types : List ServedShape) (m : History) (next_types : List ServedShape
   by_left us shapes may true is h = subst (MayServe types m) (ap served_by h) (record { shapes = shapes; may = may; left = leb-true _ _ is })
 
   by_lawful : (us : List ServedShape) → list_all (λ t. is_object_shape t.shape) us ≡ true → (b : Bool) → types_may_become types us ≡ b
-      → cond b (if_left (m.current + length (changed_objects types us (current_objects m))) us) (Err not_lawful) ≡ Ok next_types → MayServe types m next_types
+      → cond b (if_revisions_left (m.current + length (changed_objects types us (current_objects m))) us) (Err not_lawful) ≡ Ok next_types → MayServe types m next_types
   by_lawful us shapes false may h = refused not_lawful next_types h
   by_lawful us shapes true may h = by_left us shapes may (nat_le (m.current + length (changed_objects types us (current_objects m))) last_revision) refl h
 
@@ -98,7 +98,7 @@ module _ (types next_types : List ServedShape) (m : History) (is : IsMachine typ
     u : ServedShape
     was : slice_get types k.kind ≡ Some t
     now : slice_get next_types k.kind ≡ Some u
-    text : (r : ℕ) → text_under types next_types r k o ≡ Some (carried_text t u r k o)
+    text : (r : ℕ) → carried_text_at types next_types r k o ≡ Some (carried_text t u r k o)
     is_text : (r : ℕ) → r ≤ last_revision → IsTextOf u k r (carried_text t u r k o)
     says : (r : ℕ) → r ≤ last_revision → decoded_state u.shape (carried_text t u r k o) ≡ carried_state t.shape u.shape (decoded_state t.shape o.body)
     stays : is_changed types next_types (k, o) ≡ false → carried_text t u o.revision k o ≡ o.body
@@ -190,7 +190,7 @@ module _ (types next_types : List ServedShape) (m : History) (is : IsMachine typ
 
     written_text : (o : Object) (there : fin.get (current_objects m) k ≡ Some o) (y : Under k o) → now_at k ≡ Some (record { revision = x.revision; body = carried_text y.t y.u x.revision k o })
     written_text o there y =
-        x.at ∙ ap₂ (λ q z. object_by x.revision (text_under types next_types x.revision q z)) (sym x.of) (object_is o there) ∙ ap (object_by x.revision) (y.text x.revision)
+        x.at ∙ ap₂ (λ q z. object_by x.revision (carried_text_at types next_types x.revision q z)) (sym x.of) (object_is o there) ∙ ap (object_by x.revision) (y.text x.revision)
 
   then_stand : AreTexts next_types (current_objects (retyped types next_types m))
   then_stand k o there = by_case (by_writes k)
@@ -268,7 +268,7 @@ module _ (types : List ServedShape) (m : History) (is : IsMachine types m) where
   unfolding retyping
   same_types file declared =
       ap (if_declared types m) declared ∙ ap (λ b. cond b (if_compatible types m types) (Err not_types)) (shapes_tested types is.shapes)
-      ∙ ap (λ b. cond b (if_left (m.current + length (changed_objects types types (current_objects m))) types) (Err not_lawful)) (itself types) ∙ ap (λ b. cond b (Ok types) (Err too_few_revisions)) (le-leb _ _ enough)
+      ∙ ap (λ b. cond b (if_revisions_left (m.current + length (changed_objects types types (current_objects m))) types) (Err not_lawful)) (itself types) ∙ ap (λ b. cond b (Ok types) (Err too_few_revisions)) (le-leb _ _ enough)
 
   same_machine : retyped types types m ≡ m
   unfolding retyped

@@ -16,7 +16,7 @@ use Rattle.history.proofs.Lists.{all_weaker}
 use Rattle.history.proofs.Revisions.{changed-append, up_to-all}
 use Rattle.history.proofs.Writes.{changes_all, rising_all}
 use Rattle.objects.proofs.Taken.{no_some, same_some}
-use Rattle.verbs.specs.Retyping.{text_under, writes_from}
+use Rattle.verbs.specs.Retyping.{carried_text_at, writes_from}
 
 abbrev pub Entries : Type 0
 Entries = List (Key × Object)
@@ -97,7 +97,7 @@ module _ (types next_types : List ServedShape) where
     pub high : revision ≤ n + length es
     pub of : k ≡ e.0
     pub is : P e
-    pub at : now ≡ object_by revision (text_under types next_types revision e.0 e.1)
+    pub at : now ≡ object_by revision (carried_text_at types next_types revision e.0 e.1)
 
   abbrev pub StaysOrWritten : (Key × Object → Type 0) → ℕ → Entries → Objects → Key → Option Object → Type 0
   StaysOrWritten P n es s k now = ((has_key k es ≡ false) × (now ≡ fin.get s k)) ⊎ IsWritten P n es k now
@@ -108,7 +108,7 @@ module _ (types next_types : List ServedShape) where
   stays_or_written P n (e ∷ es) s k all = by_rest (stays_or_written P (suc n) es (put_or_remove s e.0 first) k all.1)
     where
       first : Option Object
-      first = object_by (suc n) (text_under types next_types (suc n) e.0 e.1)
+      first = object_by (suc n) (carried_text_at types next_types (suc n) e.0 e.1)
 
       end : Option Object
       end = fin.get (changed (put_or_remove s e.0 first) (changes_by (suc n) (writes_from types next_types (suc n) es))) k
@@ -133,12 +133,12 @@ module _ (types next_types : List ServedShape) where
 
   -- nothing is deleted
   abbrev pub HasText : Key × Object → Type 0
-  HasText e = (r : ℕ) → is_some (text_under types next_types r e.0 e.1) ≡ true
+  HasText e = (r : ℕ) → is_some (carried_text_at types next_types r e.0 e.1) ≡ true
 
   pub none_goes : (n : ℕ) (es : Entries) (s : Objects) → AllByRecursion HasText es → AreThere s (changes_by n (writes_from types next_types n es))
   none_goes n [] s all = tt
   none_goes n (e ∷ es) s all =
-      let change : Change = record { revision = suc n; key = e.0; body = text_under types next_types (suc n) e.0 e.1 } in
+      let change : Change = record { revision = suc n; key = e.0; body = carried_text_at types next_types (suc n) e.0 e.1 } in
       (λ none. absurd (true≢false (sym (all.0 (suc n)) ∙ ap is_some none)), none_goes (suc n) es (put_or_remove s e.0 (left_by change)) all.1)
 
   pub as_many : (n : ℕ) (es : Entries) → length (writes_from types next_types n es) ≡ length es

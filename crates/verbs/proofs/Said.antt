@@ -23,7 +23,7 @@ use Rattle.objects.proofs.Taken.{no_some}
 use Rattle.objects.proofs.Textual.{value_textual}
 use Rattle.verbs.specs.Machine.{AreObjectTypes, identity_of, no_state, state_or_none, decoded_state}
 use Rattle.verbs.specs.CachedStateViews.{IsDecodedFrom}
-use Rattle.verbs.specs.Step.{printed, text_at}
+use Rattle.verbs.specs.Step.{object_value_at, text_at}
 
 -- an object's text says the state that it was printed of
 pub said_back : (s : Shape) (of : Identity) (version : ℕ) (state : State) (text : List ℕ) → IsObjectShape s → IsObjectText s of version state text → decoded_state s text ≡ state
@@ -46,7 +46,7 @@ pub printed_says : (t : ServedShape) (k : Key) (revision : ℕ) (state : State) 
 printed_says t k revision state shaped well_typed low = (said_back t.shape (identity_of t k) revision state (text_at t k revision state) shaped (printed_is_text t k revision state well_typed low), well_typed)
 
 -- no number in it is a float
-pub printed_clean : (t : ServedShape) (k : Key) (revision : ℕ) (state : State) → IsObjectShape t.shape → IsContent t.shape state.content → has_float (printed t k revision state) ≡ false
+pub printed_clean : (t : ServedShape) (k : Key) (revision : ℕ) (state : State) → IsObjectShape t.shape → IsContent t.shape state.content → has_float (object_value_at t k revision state) ≡ false
 printed_clean t k revision state shaped content = (value_textual t.shape shaped.1 (identity_of t k) revision state content).1
 
 pub nobody_owns : (k : Manager) (p : PathTexts) → set.contains (owned_by fin.empty k) p ≡ false

@@ -29,7 +29,7 @@ use Rattle.verbs.specs.declared.fault.Fault.TheVariants as call_fault
 use Rattle.verbs.specs.declared.fault.RetypeFault.TheVariants as retype_fault
 use Rattle.verbs.specs.GatheredViews.{AreWritable, IsTooMany, file_fault, gathered}
 use Rattle.verbs.specs.Machine.{AreTexts, AreUnicode, IsMachine}
-use Rattle.verbs.specs.Retyping.{RetypeRefusal, changed_objects, if_declared, if_compatible, if_left, not_lawful, not_types, retyped, retyping, retyping_writes, too_few_revisions}
+use Rattle.verbs.specs.Retyping.{RetypeRefusal, changed_objects, if_declared, if_compatible, if_revisions_left, not_lawful, not_types, retyped, retyping, retyping_writes, too_few_revisions}
 use Rattle.verbs.specs.Views.{IsFileFault, ApiRepresents, objects_in, retype_refusal, reported_of_file, types_of}
 use Rattle.verbs.proofs.Gathering.{gathered_length}
 use Rattle.verbs.proofs.Machines.{current_objects_seen}
@@ -91,10 +91,10 @@ never_unreadable types_fault.Memory is = absurd cc
 
 module _ (types next_types : List ServedShape) (m : History) where
   pub not_lawful_is : types_may_become types next_types ≡ false → if_compatible types m next_types ≡ Err not_lawful
-  not_lawful_is is = ap (λ (b : Bool). cond b (if_left (m.current + length (changed_objects types next_types (current_objects m))) next_types) (Err not_lawful)) is
+  not_lawful_is is = ap (λ (b : Bool). cond b (if_revisions_left (m.current + length (changed_objects types next_types (current_objects m))) next_types) (Err not_lawful)) is
 
-  lawful_is : types_may_become types next_types ≡ true → if_compatible types m next_types ≡ if_left (m.current + length (changed_objects types next_types (current_objects m))) next_types
-  lawful_is is = ap (λ (b : Bool). cond b (if_left (m.current + length (changed_objects types next_types (current_objects m))) next_types) (Err not_lawful)) is
+  lawful_is : types_may_become types next_types ≡ true → if_compatible types m next_types ≡ if_revisions_left (m.current + length (changed_objects types next_types (current_objects m))) next_types
+  lawful_is is = ap (λ (b : Bool). cond b (if_revisions_left (m.current + length (changed_objects types next_types (current_objects m))) next_types) (Err not_lawful)) is
 
   counted : length (retyping_writes types next_types m) ≡ length (changed_objects types next_types (current_objects m))
   counted = gathered_length types next_types m.current (fin.entries (current_objects m))

@@ -13,7 +13,7 @@ use Rattle.verbs.specs.declared.fault.RetypeFault.{RetypeFault}
 use Rattle.verbs.specs.declared.fault.RetypeFault.TheVariants.{Failed, NotTypes}
 use Rattle.verbs.specs.declared.retyping.Retyper.{Retyper}
 use Rattle.verbs.specs.Machine.{IsTextAt, decoded_state}
-use Rattle.verbs.specs.Retyping.{is_changed, text_under, too_few_revisions, writes_from}
+use Rattle.verbs.specs.Retyping.{is_changed, carried_text_at, too_few_revisions, writes_from}
 use Rattle.verbs.specs.Views.{retype_refusal}
 
 -- the types that are served, and those that are to be
@@ -30,7 +30,7 @@ carried_at types next_types e = option_and_then (λ t. option_map (λ u. carried
 -- its text stays, or this is the one that it gets
 abbrev pub IsNewText : List ServedShape → List ServedShape → ℕ → Key × Object → Option (List ℕ) → Type 0
 IsNewText types next_types revision e None = is_changed types next_types e ≡ false
-IsNewText types next_types revision e (Some text) = (is_changed types next_types e ≡ true) × (text_under types next_types revision e.0 e.1 ≡ Some text)
+IsNewText types next_types revision e (Some text) = (is_changed types next_types e ≡ true) × (carried_text_at types next_types revision e.0 e.1 ≡ Some text)
 
 -- of those of these objects whose text changes, from the revision after this one on
 abbrev pub gathered : List ServedShape → List ServedShape → ℕ → List (Key × Object) → List (Key × Option (List ℕ))

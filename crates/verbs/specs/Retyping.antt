@@ -25,8 +25,8 @@ abbrev pub carried_text : ServedShape → ServedShape → ℕ → Key → Object
 carried_text t u revision k o = text_at u k revision (carried_state t.shape u.shape (decoded_state t.shape o.body))
 
 -- by the types that were served and the others
-abbrev pub text_under : List ServedShape → List ServedShape → ℕ → Key → Object → Option (List ℕ)
-text_under types next_types revision k o = option_and_then (λ t. option_map (λ u. carried_text t u revision k o) (slice_get next_types k.kind)) (slice_get types k.kind)
+abbrev pub carried_text_at : List ServedShape → List ServedShape → ℕ → Key → Object → Option (List ℕ)
+carried_text_at types next_types revision k o = option_and_then (λ t. option_map (λ u. carried_text t u revision k o) (slice_get next_types k.kind)) (slice_get types k.kind)
 
 -- an object whose type isn't there, as no machine has one, keeps its text
 abbrev pub text_unchanged : Option (List ℕ) → List ℕ → Bool
@@ -35,7 +35,7 @@ text_unchanged (Some other) text = bytes_eq other text
 
 -- the text that stands is another than its new one at the same revision
 abbrev pub is_changed : List ServedShape → List ServedShape → Key × Object → Bool
-is_changed types next_types e = not (text_unchanged (text_under types next_types e.1.revision e.0 e.1) e.1.body)
+is_changed types next_types e = not (text_unchanged (carried_text_at types next_types e.1.revision e.0 e.1) e.1.body)
 
 -- in the order of keys: by the number of the type, then by namespace, then by name
 abbrev pub changed_objects : List ServedShape → List ServedShape → Objects → List (Key × Object)
@@ -44,7 +44,7 @@ changed_objects types next_types s = filter (is_changed types next_types) (fin.e
 -- each gets its new text at the next revision
 abbrev pub writes_from : List ServedShape → List ServedShape → ℕ → List (Key × Object) → List (Key × Option (List ℕ))
 writes_from types next_types r [] = []
-writes_from types next_types r (e ∷ es) = (e.0, text_under types next_types (suc r) e.0 e.1) ∷ writes_from types next_types (suc r) es
+writes_from types next_types r (e ∷ es) = (e.0, carried_text_at types next_types (suc r) e.0 e.1) ∷ writes_from types next_types (suc r) es
 
 abbrev pub retyping_writes : List ServedShape → List ServedShape → History → List (Key × Option (List ℕ))
 retyping_writes types next_types m = writes_from types next_types m.current (changed_objects types next_types (current_objects m))
@@ -62,11 +62,11 @@ pub data RetypeRefusal : Type 0 where
   not_lawful : RetypeRefusal
   too_few_revisions : RetypeRefusal
 
-abbrev pub if_left : ℕ → List ServedShape → Result (List ServedShape) RetypeRefusal
-if_left revision next_types = if nat_le revision last_revision then Ok next_types else Err too_few_revisions
+abbrev pub if_revisions_left : ℕ → List ServedShape → Result (List ServedShape) RetypeRefusal
+if_revisions_left revision next_types = if nat_le revision last_revision then Ok next_types else Err too_few_revisions
 
 abbrev pub if_compatible : List ServedShape → History → List ServedShape → Result (List ServedShape) RetypeRefusal
-if_compatible types m next_types = if types_may_become types next_types then if_left (m.current + length (changed_objects types next_types (current_objects m))) next_types else Err not_lawful
+if_compatible types m next_types = if types_may_become types next_types then if_revisions_left (m.current + length (changed_objects types next_types (current_objects m))) next_types else Err not_lawful
 
 -- a types file, whose members stand in order, declares types of objects alone: that each is one holds of every JSON value, and what is no
 -- types file counts first in any case

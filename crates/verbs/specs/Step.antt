@@ -51,11 +51,11 @@ use Rattle.api_validation.specs.Size.{size_validated}
 -- ---- the object
 
 -- the object's value and its text
-abbrev pub printed : ServedShape → Key → ℕ → State → Data
-printed t k revision s = object_value t.shape (identity_of t k) revision s
+abbrev pub object_value_at : ServedShape → Key → ℕ → State → Data
+object_value_at t k revision s = object_value t.shape (identity_of t k) revision s
 
 abbrev pub text_at : ServedShape → Key → ℕ → State → List ℕ
-text_at t k revision s = compact_text (printed t k revision s)
+text_at t k revision s = compact_text (object_value_at t k revision s)
 
 -- ---- version
 
@@ -144,7 +144,7 @@ plan_put_text body current k status =
 
 -- the plan that stores a state, with the next revision
 abbrev pub plan_put : ServedShape → ℕ → Key → ℕ → State → Validated Plan
-plan_put t current k status s = plan_put_text (printed t k (suc current) s) current k status
+plan_put t current k status s = plan_put_text (object_value_at t k (suc current) s) current k status
 
 -- the object as it stands
 abbrev pub plan_without_change : Object → Plan

@@ -6,8 +6,8 @@ use Rattle.verbs.specs.CachedStateViews.{IsCoherent}
 use Rattle.api_request.specs.Views.{plan_of}
 use Rattle.verbs.specs.declared.cached.WritePlan.{WritePlan}
 
-abbrev pub written_plan : WritePlan → Plan
-written_plan w = plan_of w.plan
+abbrev pub plan_in : WritePlan → Plan
+plan_in w = plan_of w.plan
 
 -- what is cached is what the text says
 abbrev pub CachesCoherently : ServedShape → WritePlan → Type 0

@@ -14,7 +14,7 @@ ghost use Rattle.api_request.specs.Views.{Refuses, RefusesFor, answer_of, plan_o
 ghost use Rattle.watchline.specs.Watches.{from_view};
 ghost use Rattle.verbs.specs.Step.{list_answered, list_refusal, list_plan, plan_for, shown_by, too_large_message};
 
-use crate::answering::{plan_for, shown};
+use crate::answering::{ok_answer, plan_for};
 use crate::fault::Fault;
 use crate::planner::Planner;
 use api_request::{Answer, CallError, Plan, Reason};
@@ -72,9 +72,9 @@ fn answered(
     match watch {
         Some(watch) => {
             let from = start_watch(alloc, store, of, params, watch)?;
-            Ok(shown(String::new(alloc), Some(from)))
+            Ok(ok_answer(String::new(alloc), Some(from)))
         }
-        None => Ok(shown(list(alloc, store, of, &params)?, None)),
+        None => Ok(ok_answer(list(alloc, store, of, &params)?, None)),
     }
 }
 

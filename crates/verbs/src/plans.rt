@@ -15,7 +15,7 @@ ghost use Rattle.api_request.specs.Views.{Returns, call_of, plan_of, scope_seen}
 ghost use Rattle.verbs.specs.Views.{objects_in};
 ghost use Rattle.verbs.specs.Step.{body_of, create_plan, get_plan, key_at, plan_for, planned_over, dispatch_scope, dispatch_write};
 ghost use Rattle.api_request.specs.Validated.{Validated, and_then};
-ghost use Rattle.verbs.specs.WritePlanViews.{CachesCoherently, written_plan};
+ghost use Rattle.verbs.specs.WritePlanViews.{CachesCoherently, plan_in};
 ghost use Rattle.watchline.specs.Watches.{from_view};
 
 use crate::answering::{plan_for, refused_for};
@@ -34,12 +34,12 @@ use std::alloc::Global;
 
 /// The plan of a write, or of its refusal. After a change the state that it stored is what is known, and nothing of an object that
 /// it deleted; where nothing is changed, what was known stays.
-fn plan_written(
+fn finish_write(
     alloc: Global,
     written: Result<WritePlan, CallError>,
     known: &mut Option<CachedState>,
 ) -> Result<Plan, Fault>
-    ensures plan_for { (answer : Validated calls.Plan) → Returns written_plan written answer → IfOk result (λ p. plan_of p ≡ plan_for answer) }
+    ensures plan_for { (answer : Validated calls.Plan) → Returns plan_in written answer → IfOk result (λ p. plan_of p ≡ plan_for answer) }
     ensures readable { result ≢ Err Fault.Unreadable }
     ensures coherent { (t : ServedShape) → IfOk written (CachesCoherently t) → IfSome known.old (IsCoherent t) → IfSome known.new (IsCoherent t) }
 {
@@ -78,7 +78,7 @@ impl Planner<'_> {
         requires planner { IsSoundPlanner self }
         requires existing { IsWellDecoded (type_of self) existing.now }
         ensures plan { let c = call_of_entry self.entry in
-            Returns written_plan result (dispatch_write c.target.method subresource (type_of self.entry) self.entry.current (object_in existing.now) (key_of key) c.query c.body) }
+            Returns plan_in result (dispatch_write c.target.method subresource (type_of self.entry) self.entry.current (object_in existing.now) (key_of key) c.query c.body) }
         ensures coherent { IfOk result (CachesCoherently (type_of self.entry)) }
     {
         match (self.call.target.method, subresource) {
@@ -113,7 +113,7 @@ impl Planner<'_> {
         let existing = existing_at(self.alloc, self.served, &key, object, known.take())?;
         let written = self.plan_write(key, subresource, &existing);
         *known = existing.into_cached();
-        plan_written(self.alloc, written, known)
+        finish_write(self.alloc, written, known)
     }
 
     /// A creation in a namespace: the body names the object.
@@ -138,11 +138,11 @@ impl Planner<'_> {
         };
         let stored = store.get(&key)?;
         let plan_create_in = self.plan_created(key, stored.as_ref(), intent);
-        plan_written(self.alloc, plan_create_in, known)
+        finish_write(self.alloc, plan_create_in, known)
     }
 
     /// By the method and the objects that the call is of.
-    fn planned(
+    fn dispatch_scope(
         self,
         store: &mut Store,
         scope: Scope<'_>,
@@ -221,7 +221,7 @@ fn planned_over(
         call,
         current: store.current(),
     };
-    planner.planned(store, scope, known)
+    planner.dispatch_scope(store, scope, known)
 }
 
 /// The plan of a call.

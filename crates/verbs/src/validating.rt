@@ -1,7 +1,7 @@
 //! The checks of each call on an object, in their order, and the plan of a call that passes them (Kubernetes docs, "Server-Side
 //! Apply" and its "Comparison with Client-Side Apply"; "Kubernetes API Concepts", "Resource versions", "Resource deletion").
 //! What a check is stands by itself: in `envelope`, `reading` (shape), `parameters`, `naming`, `presence`, `conflicts`, `options`,
-//! `storing` (version, revisions) and `size`. A list or a watch checks its parameters, then the revision, in `listing`.
+//! `preconditions` (version, revisions) and `size`. A list or a watch checks its parameters, then the revision, in `listing`.
 
 ghost use Rattle.std.specs.Prelude.{◌≡◌, ◌<◌, ◌≤◌, IfOk, OnOk, codes, option_map, string_bytes};
 ghost use Rattle.serde_json.specs.Data.{Data};
@@ -28,9 +28,9 @@ ghost use Rattle.verbs.specs.Views.{creation_seen, intent_seen, object_of};
 ghost use Rattle.api_validation.specs.Size.{count_if_there};
 ghost use Rattle.verbs.specs.Step.{applied_over, apply_plan, plan_without_change, at_path, body_of, created_as, creation_validated, delete_plan, deleted, get_plan, intent_of, plan_put, plan_put_text, plan_put_unless_same, update_plan, updated_by, version_reached};
 ghost use Rattle.api_request.specs.Validated.{and_then};
-ghost use Rattle.verbs.specs.WritePlanViews.{CachesCoherently, written_plan};
+ghost use Rattle.verbs.specs.WritePlanViews.{CachesCoherently, plan_in};
 
-use crate::answering::{body_of, shown};
+use crate::answering::{body_of, ok_answer};
 use crate::cached::{WritePlan, cache_state};
 use crate::existing::Existing;
 use crate::listing::too_large;
@@ -159,7 +159,7 @@ impl<'a> Planner<'a> {
     fn plan_put_cached(self, key: Key, status: u16, owned: Owned) -> Result<WritePlan, CallError>
         requires planner { IsSoundPlanner self }
         requires well_typed { IsWellTypedState (type_of self).shape (state_of owned) }
-        ensures plan { Returns written_plan result (plan_put (type_of self.entry) self.entry.current (key_of key) status (state_of owned)) }
+        ensures plan { Returns plan_in result (plan_put (type_of self.entry) self.entry.current (key_of key) status (state_of owned)) }
         ensures coherent { IfOk result (CachesCoherently (type_of self.entry)) }
     {
         let plan = self.plan_put(key, status, &owned)?;
@@ -178,7 +178,7 @@ impl<'a> Planner<'a> {
         requires planner { IsSoundPlanner self }
         requires well_typed { IsWellTypedState (type_of self).shape (state_of owned) }
         requires said { IsDecoded (type_of self) existing.now }
-        ensures plan { Returns written_plan result (plan_put_unless_same (type_of self.entry) self.entry.current (key_of key) (object_in existing.now) (state_of owned)) }
+        ensures plan { Returns plan_in result (plan_put_unless_same (type_of self.entry) self.entry.current (key_of key) (object_in existing.now) (state_of owned)) }
         ensures coherent { IfOk result (CachesCoherently (type_of self.entry)) }
     {
         match written_over(&owned, existing.before()) {
@@ -201,7 +201,7 @@ impl<'a> Planner<'a> {
         requires planner { IsSoundPlanner self }
         requires content { IsContent (type_of self).shape intent.content }
         requires existing { IsWellDecoded (type_of self) existing.now }
-        ensures plan { Returns written_plan result (applied_over (type_of self.entry) self.entry.current (key_of key) (object_in existing.now) (intent_seen intent.entry)) }
+        ensures plan { Returns plan_in result (applied_over (type_of self.entry) self.entry.current (key_of key) (object_in existing.now) (intent_seen intent.entry)) }
         ensures coherent { IfOk result (CachesCoherently (type_of self.entry)) }
     {
         self.check_object_of_status(intent.subresource, &key, existing.object.as_ref())?;
@@ -221,7 +221,7 @@ impl<'a> Planner<'a> {
         requires planner { IsSoundPlanner self }
         requires existing { IsWellDecoded (type_of self) existing.now }
         ensures plan { let c = call_of_entry self.entry in
-            Returns written_plan result (and_then (body_of c.body) (apply_plan subresource (type_of self.entry) self.entry.current (object_in existing.now) (key_of key) c.query)) }
+            Returns plan_in result (and_then (body_of c.body) (apply_plan subresource (type_of self.entry) self.entry.current (object_in existing.now) (key_of key) c.query)) }
         ensures coherent { IfOk result (CachesCoherently (type_of self.entry)) }
     {
         let body = body_of(self.alloc, self.call)?;
@@ -242,7 +242,7 @@ impl<'a> Planner<'a> {
         requires planner { IsSoundPlanner self }
         requires existing { IsWellDecoded (type_of self) existing.now }
         ensures plan { let c = call_of_entry self.entry in
-            Returns written_plan result (and_then (body_of c.body) (update_plan subresource (type_of self.entry) self.entry.current (object_in existing.now) (key_of key) c.query)) }
+            Returns plan_in result (and_then (body_of c.body) (update_plan subresource (type_of self.entry) self.entry.current (object_in existing.now) (key_of key) c.query)) }
         ensures coherent { IfOk result (CachesCoherently (type_of self.entry)) }
     {
         let body = body_of(self.alloc, self.call)?;
@@ -289,7 +289,7 @@ impl<'a> Planner<'a> {
     ) -> Result<WritePlan, CallError>
         requires planner { IsSoundPlanner self }
         requires content { IsContent (type_of self).shape intent.content }
-        ensures plan { Returns written_plan result (created_as (type_of self.entry) self.entry.current (option_map (λ o. object_of o.now) existing.entry) (key_of key) (intent_seen intent.entry)) }
+        ensures plan { Returns plan_in result (created_as (type_of self.entry) self.entry.current (option_map (λ o. object_of o.now) existing.entry) (key_of key) (intent_seen intent.entry)) }
         ensures coherent { IfOk result (CachesCoherently (type_of self.entry)) }
     {
         validate_names(self.alloc, intent.subresource, &key, intent.body)?;
@@ -306,7 +306,7 @@ impl<'a> Planner<'a> {
         requires shaped { IsObjectShape (type_of self).shape }
         requires content { IsContent (type_of self).shape state.now.tree }
         requires said { state_of state.now ≡ decoded_state (type_of self).shape (object_of existing.now).body }
-        ensures plan { IfOk result (λ w. written_plan w ≡ deleted (type_of self.entry) self.entry.current (key_of key) (object_of existing.now)) }
+        ensures plan { IfOk result (λ w. plan_in w ≡ deleted (type_of self.entry) self.entry.current (key_of key) (object_of existing.now)) }
         ensures coherent { (t : ServedShape) → IfOk result (CachesCoherently t) }
     {
         let revision = self.current + 1;
@@ -318,7 +318,7 @@ impl<'a> Planner<'a> {
         };
         Ok(WritePlan {
             plan: Plan {
-                answer: shown(body, None),
+                answer: ok_answer(body, None),
                 change: Some(change),
             },
             cached: None,
@@ -331,7 +331,7 @@ impl<'a> Planner<'a> {
         requires planner { IsSoundPlanner self }
         requires existing { IsWellDecoded (type_of self) existing.now }
         ensures plan { let c = call_of_entry self.entry in
-            Returns written_plan result (delete_plan (type_of self.entry) self.entry.current (object_in existing.now) (key_of key) c.query c.body) }
+            Returns plan_in result (delete_plan (type_of self.entry) self.entry.current (object_in existing.now) (key_of key) c.query c.body) }
         ensures coherent { IfOk result (CachesCoherently (type_of self.entry)) }
     {
         let version = validate_options(self.alloc, self.call.body.as_ref())?;
@@ -365,7 +365,7 @@ impl<'a> Planner<'a> {
         };
         self.check_version_reached(params.version)?;
         Ok(Plan {
-            answer: shown(object.body, None),
+            answer: ok_answer(object.body, None),
             change: None,
         })
     }
@@ -373,13 +373,13 @@ impl<'a> Planner<'a> {
 
 /// The plan that answers what stands and changes nothing. The text is copied, since what stands is cached.
 fn unchanged(existing: &Object) -> Result<WritePlan, AllocError>
-    ensures plan { IfOk result (λ w. written_plan w ≡ plan_without_change (object_of existing.now)) }
+    ensures plan { IfOk result (λ w. plan_in w ≡ plan_without_change (object_of existing.now)) }
     ensures coherent { (t : ServedShape) → IfOk result (CachesCoherently t) }
 {
     let body = existing.body.clone()?;
     Ok(WritePlan {
         plan: Plan {
-            answer: shown(body, None),
+            answer: ok_answer(body, None),
             change: None,
         },
         cached: None,

@@ -19,7 +19,7 @@ use Rattle.lists.specs.Labels.{labels_of, selection_of}
 use Rattle.watchline.specs.declared.seen.Seen.{Seen as TheSeen}
 use Rattle.watchline.specs.Views.{seen_change_of}
 use Rattle.watchline.proofs.Putting.{enough}
-use Rattle.watchline.specs.BatchViews.{AreBetween, IsNotBelow, changes_past, if_labelled, revision_of_last, seen_each, seen_labelled, to_read}
+use Rattle.watchline.specs.BatchViews.{AreBetween, IsNotBelow, changes_past, body_if_selected, revision_of_last, seen_each, seen_by_labels, to_read}
 
 -- ---- the last revision
 
@@ -175,12 +175,12 @@ within : (kind : ℕ) (namespace : Option (List ℕ)) (requirements : List Requi
 within kind namespace requirements k b h = left_true (is_within kind namespace k) (selects requirements (labels_of b)) h
 
 same_body : (kind : ℕ) (namespace : Option (List ℕ)) (requirements : List Requirement) (k : Key) → is_within kind namespace k ≡ true → (b : Option (List ℕ))
-    → if_wanted (selection_of kind namespace requirements) k b ≡ if_labelled requirements b
+    → if_wanted (selection_of kind namespace requirements) k b ≡ body_if_selected requirements b
 same_body kind namespace requirements k own None = refl
 same_body kind namespace requirements k own (Some b) = ap (λ t. cond (t && selects requirements (labels_of b)) (Some b) None) own
 
 same_seen : (kind : ℕ) (namespace : Option (List ℕ)) (requirements : List Requirement) (s : Objects) (c : Change) → is_within kind namespace c.key ≡ true
-    → seen_of (selection_of kind namespace requirements) s c ≡ seen_labelled requirements s c
+    → seen_of (selection_of kind namespace requirements) s c ≡ seen_by_labels requirements s c
 same_seen kind namespace requirements s c own = ap₂ (λ a b. seen_by c.revision c.key a b) (same_body kind namespace requirements c.key own _) (same_body kind namespace requirements c.key own c.body)
 
 same_each : {A B : Type 0} (f g : A → List B) (p : A → Bool) → ((x : A) → p x ≡ true → f x ≡ g x) → (xs : List A) → flat_map f (filter p xs) ≡ flat_map g (filter p xs)
@@ -199,7 +199,7 @@ seen_is kind namespace requirements v after sound =
     sym (
     view_one_by_one (selection_of kind namespace requirements) (λ k. is_within kind namespace k) v after v.current (within kind namespace requirements) sound
     ∙ ap (λ cs. flat_map (λ c. seen_of (selection_of kind namespace requirements) (state_in v (c.revision - 1)) c) (picked kind namespace cs)) all
-    ∙ same_each (λ c. seen_of (selection_of kind namespace requirements) (state_in v (c.revision - 1)) c) (λ c. seen_labelled requirements (state_in v (c.revision - 1)) c) (λ c. is_within kind namespace c.key)
+    ∙ same_each (λ c. seen_of (selection_of kind namespace requirements) (state_in v (c.revision - 1)) c) (λ c. seen_by_labels requirements (state_in v (c.revision - 1)) c) (λ c. is_within kind namespace c.key)
     (λ c own. same_seen kind namespace requirements (state_in v (c.revision - 1)) c own) (later after v.changes)
     )
 
@@ -212,7 +212,7 @@ pub seen_more : (requirements : List Requirement) (v : View) (all : List Change)
     → new ≡ found ++ seen_each requirements v rows → IsSeenSoFar requirements v all new rest
 seen_more requirements v all found new left rows rest so_far reads is =
     so_far ∙ ap (λ cs. found ++ seen_each requirements v cs) reads
-    ∙ ap (λ xs. found ++ xs) (flat_map-append (λ c. seen_labelled requirements (state_in v (c.revision - 1)) c) rows rest)
+    ∙ ap (λ xs. found ++ xs) (flat_map-append (λ c. seen_by_labels requirements (state_in v (c.revision - 1)) c) rows rest)
     ∙ sym (append_assoc found (seen_each requirements v rows) (seen_each requirements v rest)) ∙ ap (λ xs. xs ++ seen_each requirements v rest) (sym is)
 
 -- enough were found, or nothing is left
@@ -224,9 +224,9 @@ pub seen_all : (requirements : List Requirement) (v : View) (all : List Change) 
 seen_all requirements v all found left so_far none = sym (so_far ∙ ap (λ cs. found ++ seen_each requirements v cs) none ∙ append-nil found)
 
 pub each_more : (requirements : List Requirement) (v : View) (whole found new : List SeenChange) (cs rest : List Change) (c : Change) → found ++ seen_each requirements v cs ≡ whole → cs ≡ c ∷ rest
-    → new ≡ found ++ seen_labelled requirements (state_in v (c.revision - 1)) c → new ++ seen_each requirements v rest ≡ whole
+    → new ≡ found ++ seen_by_labels requirements (state_in v (c.revision - 1)) c → new ++ seen_each requirements v rest ≡ whole
 each_more requirements v whole found new cs rest c so_far reads is =
-    ap (λ xs. xs ++ seen_each requirements v rest) is ∙ append_assoc found (seen_labelled requirements (state_in v (c.revision - 1)) c) (seen_each requirements v rest)
+    ap (λ xs. xs ++ seen_each requirements v rest) is ∙ append_assoc found (seen_by_labels requirements (state_in v (c.revision - 1)) c) (seen_each requirements v rest)
     ∙ ap (λ xs. found ++ xs) (sym (ap (seen_each requirements v) reads)) ∙ so_far
 
 -- ---- where a watch then stands

@@ -23,7 +23,7 @@ use Rattle.watchline.specs.declared.opening.InitialEvents.TheVariants.{Changes, 
 use Rattle.watchline.specs.Lines.{added, bookmark_line, line_of}
 use Rattle.watchline.specs.Opening.{WatchFrom, first_cursor, sent_of}
 use Rattle.watchline.specs.TurnLaws.{SkipsNothing, after_turns, lines_by, room_of}
-use Rattle.watchline.specs.Watches.{Cursor, InitialLeft, BookmarkTurn, Turn, bookmarked, changes_left, changes_sent, coming, entries_left, expiring, from_history, is_bookmark_due, key_at, left_behind, initial_left_from, left_past, moved, no_initial_left, objects_left, position_by, position_past, pumped, sending, wanted}
+use Rattle.watchline.specs.Watches.{Cursor, InitialLeft, BookmarkTurn, Turn, bookmarked, changes_left, changes_sent, coming, entries_left, expiring, from_history, is_bookmark_due, key_at, initial_left_after, initial_left_from, initial_left_after_count, moved, no_initial_left, objects_left, position_by, position_past, pumped, sending, wanted}
 use Rattle.watchline.proofs.Coming.{Entries}
 use Rattle.watchline.proofs.Putting.{drop-add, drop-behind}
 
@@ -62,17 +62,17 @@ not_empty (suc n) [] h lots is = omega (arith, lots)
 not_empty (suc n) (e ∷ es) h lots is = some_last e (take n es) is
 
 by_last : (kind n : ℕ) (all es : Entries) → suc n < length es → ((k : Key) → last_key (take (suc n) es) ≡ Some k → past (key_at kind (k.namespace, k.name)) all ≡ drop (suc n) es)
-    → (o : Option Key) → last_key (take (suc n) es) ≡ o → entries_left kind (left_behind o) all ≡ drop (suc n) es
+    → (o : Option Key) → last_key (take (suc n) es) ≡ o → entries_left kind (initial_left_after o) all ≡ drop (suc n) es
 by_last kind n all es lots on None is = absurd (not_empty (suc n) es (omega arith) (omega (arith, lots)) is)
 by_last kind n all es lots on (Some k) is = on k is
 
 by_more : (kind n : ℕ) (all es : Entries) → ((k : Key) → last_key (take (suc n) es) ≡ Some k → past (key_at kind (k.namespace, k.name)) all ≡ drop (suc n) es)
-    → (b : Bool) → nat_lt (suc n) (length es) ≡ b → entries_left kind (left_behind (cond b (last_key (take (suc n) es)) None)) all ≡ drop (suc n) es
+    → (b : Bool) → nat_lt (suc n) (length es) ≡ b → entries_left kind (initial_left_after (cond b (last_key (take (suc n) es)) None)) all ≡ drop (suc n) es
 by_more kind n all es on true lots = by_last kind n all es (ltb-true (suc n) (length es) lots) on (last_key (take (suc n) es)) refl
 by_more kind n all es on false few = sym (drop_of_length-le es (ltb-false (suc n) (length es) few))
 
 left_is : (kind room : ℕ) (all es : Entries) (left : InitialLeft) → 0 < room → ((k : Key) → last_key (take room es) ≡ Some k → past (key_at kind (k.namespace, k.name)) all ≡ drop room es)
-    → entries_left kind (left_past room es left) all ≡ drop room es
+    → entries_left kind (initial_left_after_count room es left) all ≡ drop room es
 left_is kind zero all es left some on = absurd (omega (arith, some))
 left_is kind (suc n) all es left some on = by_more kind n all es on (nat_lt (suc n) (length es)) refl
 
@@ -97,7 +97,7 @@ goes_on kind namespace requirements start s room k is =
 
 -- what is left of the objects after a turn that has room
 objects_on : (kind : ℕ) (namespace : Option (List ℕ)) (requirements : List Requirement) (left : InitialLeft) (s : Objects) (room : ℕ) → 0 < room
-    → entries_left kind (left_past room (entries_left kind left (fin.entries (Selected kind namespace requirements s))) left) (fin.entries (Selected kind namespace requirements s))
+    → entries_left kind (initial_left_after_count room (entries_left kind left (fin.entries (Selected kind namespace requirements s))) left) (fin.entries (Selected kind namespace requirements s))
     ≡ drop room (entries_left kind left (fin.entries (Selected kind namespace requirements s)))
 objects_on kind namespace requirements no_initial_left s room some =
     left_is kind room (fin.entries (Selected kind namespace requirements s)) [] no_initial_left some (λ k is. absurd (no_last room k is))
@@ -110,11 +110,11 @@ objects_on kind namespace requirements (initial_left_from start) s room some =
     (λ k is. goes_on kind namespace requirements start s room k is)
 
 -- where all of them were sent none is left
-none_on : (kind room : ℕ) (es all : Entries) (left : InitialLeft) → 0 < room → length es ≤ room → entries_left kind (left_past room es left) all ≡ []
+none_on : (kind room : ℕ) (es all : Entries) (left : InitialLeft) → 0 < room → length es ≤ room → entries_left kind (initial_left_after_count room es left) all ≡ []
 none_on kind zero es all left some few = absurd (omega (arith, some))
 none_on kind (suc n) es all left some few = by_few (nat_lt (suc n) (length es)) refl
   where
-    by_few : (b : Bool) → nat_lt (suc n) (length es) ≡ b → entries_left kind (left_behind (cond b (last_key (take (suc n) es)) None)) all ≡ []
+    by_few : (b : Bool) → nat_lt (suc n) (length es) ≡ b → entries_left kind (initial_left_after (cond b (last_key (take (suc n) es)) None)) all ≡ []
     by_few true lots = absurd (let h : suc n < length es = ltb-true (suc n) (length es) lots in omega arith)
     by_few false t = refl
 
@@ -273,7 +273,7 @@ rises_on seen cs p n top b rise = by_high (nat_le p top) refl
 -- ---- a turn
 
 objects_after : (kind : ℕ) (namespace : Option (List ℕ)) (requirements : List Requirement) (left : InitialLeft) (s : Objects) (room : ℕ)
-    → entries_left kind (left_past room (entries_left kind left (fin.entries (Selected kind namespace requirements s))) left) (fin.entries (Selected kind namespace requirements s))
+    → entries_left kind (initial_left_after_count room (entries_left kind left (fin.entries (Selected kind namespace requirements s))) left) (fin.entries (Selected kind namespace requirements s))
     ≡ drop room (entries_left kind left (fin.entries (Selected kind namespace requirements s)))
 objects_after kind namespace requirements left s zero = refl
 objects_after kind namespace requirements left s (suc n) = objects_on kind namespace requirements left s (suc n) (omega arith)
@@ -312,7 +312,7 @@ module _ (h : History) (room : ℕ) (w : Cursor) (is : IsHistory h) where
           none_on w.kind room (objects_left (from_history h) w) (fin.entries (selected (wanted w) (state_at h.changes (position_past (from_history h) room w)))) w.left (omega (arith, few)) (omega (arith, few))
           ∙ sym (drop_of_length-le (objects_left (from_history h) w) (omega (arith, few)))
       by_room false t =
-          ap (λ p. entries_left w.kind (left_past room (objects_left (from_history h) w) w.left) (fin.entries (selected (wanted w) (state_at h.changes p))))
+          ap (λ p. entries_left w.kind (initial_left_after_count room (objects_left (from_history h) w) w.left) (fin.entries (selected (wanted w) (state_at h.changes p))))
           (stays_put (ltb-false (length (objects_left (from_history h) w)) room t))
           ∙ objects_after w.kind w.namespace w.requirements w.left (state_at h.changes w.position) room
 

@@ -11,16 +11,16 @@ use Rattle.history.specs.View.{View, state_in}
 use Rattle.lists.specs.Labels.{labels_of}
 
 -- a body, where its labels meet the requirements: the type and the namespace are those of the changes that are read
-abbrev pub if_labelled : List Requirement → Option (List ℕ) → Option (List ℕ)
-if_labelled requirements None = None
-if_labelled requirements (Some b) = if selects requirements (labels_of b) then Some b else None
+abbrev pub body_if_selected : List Requirement → Option (List ℕ) → Option (List ℕ)
+body_if_selected requirements None = None
+body_if_selected requirements (Some b) = if selects requirements (labels_of b) then Some b else None
 
-abbrev pub seen_labelled : List Requirement → Objects → Change → List SeenChange
-seen_labelled requirements s c = seen_by c.revision c.key (if_labelled requirements (option_map (λ o. o.body) (fin.get s c.key))) (if_labelled requirements c.body)
+abbrev pub seen_by_labels : List Requirement → Objects → Change → List SeenChange
+seen_by_labels requirements s c = seen_by c.revision c.key (body_if_selected requirements (option_map (λ o. o.body) (fin.get s c.key))) (body_if_selected requirements c.body)
 
 -- what is seen of each of these changes, by what stood just before it
 abbrev pub seen_each : List Requirement → View → List Change → List SeenChange
-seen_each requirements v = flat_map (λ c. seen_labelled requirements (state_in v (c.revision - 1)) c)
+seen_each requirements v = flat_map (λ c. seen_by_labels requirements (state_in v (c.revision - 1)) c)
 
 -- the changes of the type and namespace after a revision; none where nothing is left to be read
 abbrev pub changes_past : ℕ → Option (List ℕ) → View → Option ℕ → List Change

@@ -79,14 +79,14 @@ coming s w = map added (objects_left s w) ++ changes_left s w
 abbrev pub changes_sent : HistoryWindow → ℕ → Cursor → List SeenChange
 changes_sent s room w = take (room - length (objects_left s w)) (changes_left s w)
 
-abbrev pub left_behind : Option Key → InitialLeft
-left_behind None = no_initial_left
-left_behind (Some k) = initial_left_from (Some (k.namespace, k.name))
+abbrev pub initial_left_after : Option Key → InitialLeft
+initial_left_after None = no_initial_left
+initial_left_after (Some k) = initial_left_from (Some (k.namespace, k.name))
 
 -- what is left of these after so many
-abbrev pub left_past : ℕ → List (Key × Object) → InitialLeft → InitialLeft
-left_past zero es left = left
-left_past (suc n) es left = left_behind (next_of (suc n) es)
+abbrev pub initial_left_after_count : ℕ → List (Key × Object) → InitialLeft → InitialLeft
+initial_left_after_count zero es left = left
+initial_left_after_count (suc n) es left = initial_left_after (next_of (suc n) es)
 
 abbrev pub position_by : Bool → ℕ → ℕ → ℕ
 position_by has_room current p = if has_room then max p current else p
@@ -105,7 +105,7 @@ abbrev pub sending : HistoryWindow → ℕ → Cursor → Turn
 sending s room w = record {
   lines = map line_of (take room (coming s w));
   ended = false;
-  next = moved w (position_past s room w) (reached w.sent (changes_sent s room w)) (left_past room (objects_left s w) w.left);
+  next = moved w (position_past s room w) (reached w.sent (changes_sent s room w)) (initial_left_after_count room (objects_left s w) w.left);
 }
 
 -- below the compacted number it can't send what it has missed, and ends with an error

@@ -7,7 +7,7 @@ ghost use Rattle.watchline.specs.Views.{initial_left_of, bookmark_turn, turn_of,
 
 use crate::lines::bookmark_line;
 use crate::opening::{InitialEvents, WatchFrom};
-use crate::sending::{expired, sent};
+use crate::sending::{expired, next_turn};
 use json_values::copied;
 use lists::{Collection, LabelCache, Start};
 use revstore::Store;
@@ -18,14 +18,14 @@ use std::marker::Model;
 
 /// What a watch is of, and whether it sends bookmarks.
 #[derive(Debug, Drop)]
-pub(crate) struct Scope {
+pub(crate) struct SelectedWatch {
     pub(crate) kind: u32,
     pub(crate) namespace: Option<String>,
     pub(crate) selector: Selector,
     pub(crate) bookmarks: bool,
 }
 
-impl Scope {
+impl SelectedWatch {
     pub(crate) fn namespace(&self) -> Option<&str>
         ensures { option_map (λ s. s.now) result ≡ option_map string_bytes self.now.namespace }
     {
@@ -59,7 +59,7 @@ impl Scope {
     }
 
     /// Whether both select the same objects: those of one type and namespace that meet the same requirements.
-    fn is_alike(&self, other: &Scope) -> bool
+    fn is_alike(&self, other: &SelectedWatch) -> bool
         ensures kind { IsTrue result → self.now.kind ≡ other.now.kind }
         ensures namespace { IsTrue result → option_map string_bytes self.now.namespace ≡ option_map string_bytes other.now.namespace }
         ensures selector { IsTrue result → self.now.selector ≡ other.now.selector }
@@ -116,7 +116,7 @@ pub struct Pumped {
 /// Where a watch stands.
 #[derive(Debug, Drop)]
 pub struct WatchCursor {
-    scope: Scope,
+    scope: SelectedWatch,
     progress: Progress,
 }
 
@@ -158,7 +158,7 @@ impl WatchCursor {
             sent: sent_of(from.initial, from.position),
             left: left_of(from.initial),
         };
-        let scope = Scope {
+        let scope = SelectedWatch {
             kind: from.kind,
             namespace: from.namespace,
             selector: from.selector,
@@ -214,7 +214,7 @@ impl WatchCursor {
         if self.progress.left.is_some() {
             return Ok(None);
         }
-        let scope = Scope {
+        let scope = SelectedWatch {
             kind: self.scope.kind,
             namespace: copied(alloc, self.scope.namespace())?,
             selector: self.scope.selector.try_copy(alloc)?,
@@ -254,7 +254,7 @@ impl WatchCursor {
         if position < compacted {
             return Ok(expired(labels.allocator(), position, compacted)?);
         }
-        let (pumped, progress) = sent(labels, store, &self.scope, &self.progress, max)?;
+        let (pumped, progress) = next_turn(labels, store, &self.scope, &self.progress, max)?;
         self.progress = progress;
         Ok(pumped)
     }

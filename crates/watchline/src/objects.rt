@@ -3,10 +3,10 @@
 ghost use Rattle.std.specs.Prelude.{◌≡◌, ◌≤◌, IfOk, Some, map, take};
 ghost use Rattle.history.specs.View.{IsView};
 ghost use Rattle.history.specs.Read.{entry_of};
-ghost use Rattle.watchline.specs.Watches.{from_view, left_past, objects_left};
+ghost use Rattle.watchline.specs.Watches.{from_view, initial_left_after_count, objects_left};
 ghost use Rattle.watchline.specs.Views.{cursor_of, initial_left_of, objects_at};
 
-use crate::cursor::{Progress, Scope};
+use crate::cursor::{Progress, SelectedWatch};
 use history::Entry;
 use lists::{Selected, Start, next_start, selected_page};
 use revstore::Store;
@@ -17,7 +17,7 @@ use std::alloc::Global;
 fn objects_from(
     alloc: Global,
     store: &mut Store,
-    scope: &Scope,
+    scope: &SelectedWatch,
     position: u64,
     start: &Start,
     max: usize,
@@ -25,7 +25,7 @@ fn objects_from(
     requires sound { IsView store.old }
     requires low { store.old.compacted ≤ position }
     ensures found { IfOk result (λ p. map entry_of p.0.items ≡ take max (objects_at store.old scope.now position start.now)) }
-    ensures left { IfOk result (λ p. initial_left_of p.1 ≡ left_past max (objects_at store.old scope.now position start.now) (initial_left_of (Some start.now))) }
+    ensures left { IfOk result (λ p. initial_left_of p.1 ≡ initial_left_after_count max (objects_at store.old scope.now position start.now) (initial_left_of (Some start.now))) }
     ensures same { store.new ≡ store.old }
 {
     let revision = position.min(store.current());
@@ -46,7 +46,7 @@ fn objects_from(
 pub(crate) fn objects_sent(
     alloc: Global,
     store: &mut Store,
-    scope: &Scope,
+    scope: &SelectedWatch,
     progress: &Progress,
     max: usize,
 ) -> Result<(Vec<Entry>, Option<Start>), Fault>
@@ -54,7 +54,7 @@ pub(crate) fn objects_sent(
     requires low { store.old.compacted ≤ progress.now.position }
     ensures found { IfOk result (λ p. map entry_of p.0.items ≡ take max (objects_left (from_view store.old) (cursor_of scope.now progress.now))) }
     ensures left { IfOk result (λ p. initial_left_of p.1
-        ≡ left_past max (objects_left (from_view store.old) (cursor_of scope.now progress.now)) (initial_left_of progress.now.left)) }
+        ≡ initial_left_after_count max (objects_left (from_view store.old) (cursor_of scope.now progress.now)) (initial_left_of progress.now.left)) }
     ensures same { store.new ≡ store.old }
 {
     match &progress.left {

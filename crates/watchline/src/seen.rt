@@ -4,7 +4,7 @@ ghost use Rattle.std.specs.Prelude.{◌≡◌, ◌-◌, ◌<◌, ◌≤◌, ◌+
 ghost use Rattle.history.specs.Read.{change_of, key_of, object_of};
 ghost use Rattle.history.specs.Seen.{reached, seen_by};
 ghost use Rattle.history.specs.View.{state_in};
-ghost use Rattle.watchline.specs.BatchViews.{AreBetween, if_labelled, seen_each, seen_labelled};
+ghost use Rattle.watchline.specs.BatchViews.{AreBetween, body_if_selected, seen_each, seen_by_labels};
 ghost use Rattle.watchline.specs.Views.{seen_change_of, kind_seen, seen_list};
 
 use history::{Change, Key, Object};
@@ -56,12 +56,12 @@ fn seen_by(revision: u64, key: Key, before: Option<String>, after: Option<String
 }
 
 /// The body of an object, where its labels are selected.
-fn if_labelled(
+fn body_if_selected(
     labels: &mut LabelCache,
     selector: &Selector,
     object: Option<Object>,
 ) -> Result<Option<String>, Fault>
-    ensures { IfOk result (λ o. option_map string_bytes o ≡ if_labelled selector.now (option_map (λ o. o.body) (option_map object_of object))) }
+    ensures { IfOk result (λ o. option_map string_bytes o ≡ body_if_selected selector.now (option_map (λ o. o.body) (option_map object_of object))) }
 {
     let Some(object) = object else {
         return Ok(None);
@@ -92,13 +92,13 @@ fn seen_of(
 ) -> Result<Option<Seen>, Fault>
     requires above { store.old.compacted < change.revision }
     requires known { change.revision ≤ store.old.current }
-    ensures seen { IfOk result (λ o. seen_list o ≡ seen_labelled selector.now (state_in store.old (change.revision - 1)) (change_of change)) }
+    ensures seen { IfOk result (λ o. seen_list o ≡ seen_by_labels selector.now (state_in store.old (change.revision - 1)) (change_of change)) }
     ensures same { store.new ≡ store.old }
 {
     let stood = store.before(&change.key, change.revision)?;
-    let before = if_labelled(labels, selector, stood)?;
+    let before = body_if_selected(labels, selector, stood)?;
     let stands = object_after(change.revision, change.body);
-    let after = if_labelled(labels, selector, stands)?;
+    let after = body_if_selected(labels, selector, stands)?;
     Ok(seen_by(change.revision, change.key, before, after))
 }
 
@@ -113,7 +113,7 @@ fn push_seen(
     requires above { store.old.compacted < change.revision }
     requires known { change.revision ≤ store.old.current }
     ensures found { OnOk result (map seen_change_of found.new.items
-        ≡ map seen_change_of found.old.items ++ seen_labelled selector.now (state_in store.old (change.revision - 1)) (change_of change)) }
+        ≡ map seen_change_of found.old.items ++ seen_by_labels selector.now (state_in store.old (change.revision - 1)) (change_of change)) }
     ensures same { store.new ≡ store.old }
 {
     let Some(seen) = seen_of(labels, store, selector, change)? else {

@@ -278,10 +278,10 @@ stored_fine body current k status is =
     checked (size_validated body) left (λ u. checked (step.revisions_left current) (λ v. Ok plan) (λ v. record { is = is }))
 
 over_fine : (t : ServedShape) (current : ℕ) (k : Key) (o : Option Object) (s : State) → IsFine (step.plan_put_unless_same t current k o s)
-over_fine t current k None s = stored_fine (step.printed t k (suc current) s) current k 201 (omega arith, omega arith)
+over_fine t current k None s = stored_fine (step.object_value_at t k (suc current) s) current k 201 (omega arith, omega arith)
 over_fine t current k (Some o) s =
     if_fine (same_state s (decoded_state t.shape o.body)) (Ok (step.plan_without_change o)) (step.plan_put t current k 200 s) (record { is = (omega arith, omega arith) })
-    (stored_fine (step.printed t k (suc current) s) current k 200 (omega arith, omega arith))
+    (stored_fine (step.object_value_at t k (suc current) s) current k 200 (omega arith, omega arith))
 
 applied_fine : (t : ServedShape) (current : ℕ) (k : Key) (existing : Option Object) (intent : step.Intent) → IsFine (step.applied_over t current k existing intent)
 applied_fine t current k existing intent =
@@ -314,7 +314,7 @@ created_fine t current existing k intent =
     checked (names_validated intent.subresource k.namespace k.name intent.rest)
     (λ u. validated.and_then (step.require_absent t k.name existing) (λ v. step.plan_put t current k 201 new))
     (λ u. checked (step.require_absent t k.name existing) (λ v. step.plan_put t current k 201 new)
-    (λ v. stored_fine (step.printed t k (suc current) new) current k 201 (omega arith, omega arith)))
+    (λ v. stored_fine (step.object_value_at t k (suc current) new) current k 201 (omega arith, omega arith)))
 
 create_fine : (t : ServedShape) (s : HistoryWindow) (kind : ℕ) (namespace query : List ℕ) (body : Data) → IsFine (step.create_plan t s kind namespace query body)
 create_fine t s kind namespace query body =

@@ -19,7 +19,7 @@ use Rattle.httpedge.specs.Connections.{Connection, with_written}
 use Rattle.httpedge.specs.Steps.{answer_phase, connection_after}
 use Rattle.reflector.specs.Client as client
 use Rattle.reflector.specs.Client.{Cache, Client, first, streaming, next}
-use Rattle.reflector.specs.FollowsLaws.{IsReplyTo, Follows, IsSyncTenable, IsCache}
+use Rattle.reflector.specs.FollowsLaws.{IsReplyTo, Follows, IsSyncSound, IsCacheOf}
 use Rattle.reflector.specs.Requests.{query_at, request_of}
 use Rattle.wireclient.specs.LineLaws.{HasNoFeed, IsLine}
 use Rattle.wireclient.specs.Reads.{Items}
@@ -105,7 +105,7 @@ module _ (laws : Laws) (types : List ServedShape) (task : Task) (h : History) (m
   by_asked asks cache IsSuch one (inl too_long) answer = subst (Answers asks cache) (asks_one types whole (refuse head_too_large) asked too_long one) (denied asks cache too_long)
   by_asked asks cache IsSuch one (inr (call, other, such)) answer = subst (Answers asks cache) (asks_one types whole (accepted call) asked other one) (answer call such)
 
-  answers_by : (asks : client.SyncPhase) (cache : Option Cache) → c.sync ≡ asks → IsCache (server_of task h) m cache → IsSyncTenable (server_of task h) m asks cache → Asks types whole asked
+  answers_by : (asks : client.SyncPhase) (cache : Option Cache) → c.sync ≡ asks → IsCacheOf (server_of task h) m cache → IsSyncSound (server_of task h) m asks cache → Asks types whole asked
       → whole ≡ request_with task (query_at (client_settings task) asks (option_map (λ now. now.revision) cache)) → Answers asks cache asked
   answers_by first cache asks cached able one is_whole =
       by_asked first cache (IsListCall types task_now None) one (subst (λ (l : List ℕ). AsksFor types l (IsListCall types task_now None)) (sym is_whole) (asks_first types task_now is.1))

@@ -7,7 +7,7 @@ use Rattle.history.specs.History.{History, fresh}
 use Rattle.verbs.specs.Machine.{AreObjectTypes, AreUnicode, IsMachine}
 use Rattle.reflector.proofs.Follows.{is_fresh}
 use Rattle.reflector.specs.Client.{Cache}
-use Rattle.reflector.specs.FollowsLaws.{IsCache}
+use Rattle.reflector.specs.FollowsLaws.{IsCacheOf}
 use Rattle.world_laws.proofs.Action.{steps_before, steps_hold}
 use Rattle.world_laws.proofs.RunInvariant.{RunInvariant}
 use Rattle.world_laws.proofs.Mirror.{server_of}
@@ -27,7 +27,7 @@ module _ (laws : Laws) (task : Task) where
 
   -- ---- what is kept
 
-  is_right : (types : List ServedShape) (h : History) (lo m : ℕ) (now : Cache) → IsStillTask types task → IsMachine types h → AreUnicode h.changes → lo ≤ m → m ≤ h.current → IsCache (server_of task h) m (Some now) → IsRight task lo h now
+  is_right : (types : List ServedShape) (h : History) (lo m : ℕ) (now : Cache) → IsStillTask types task → IsMachine types h → AreUnicode h.changes → lo ≤ m → m ≤ h.current → IsCacheOf (server_of task h) m (Some now) → IsRight task lo h now
   is_right types h lo m now (shape, is_task) is_machine unicode low top cached =
       let same : now.revision ≡ m = cached.0 in
       record {
@@ -36,7 +36,7 @@ module _ (laws : Laws) (task : Task) where
         objects = subst (IsStateAt (wanted_by task) (selected_at task h now.revision)) (sym cached.1) (mirror_is_right types (with_shape task shape) h now.revision is_task is_machine);
       }
 
-  kept_right : (types : List ServedShape) (h : History) (lo m : ℕ) (cache : Option Cache) → IsStillTask types task → IsMachine types h → AreUnicode h.changes → lo ≤ m → m ≤ h.current → IsCache (server_of task h) m cache → IsKeptRight task lo h cache
+  kept_right : (types : List ServedShape) (h : History) (lo m : ℕ) (cache : Option Cache) → IsStillTask types task → IsMachine types h → AreUnicode h.changes → lo ≤ m → m ≤ h.current → IsCacheOf (server_of task h) m cache → IsKeptRight task lo h cache
   kept_right types h lo m None task_is is_machine unicode low top cached = tt
   kept_right types h lo m (Some now) task_is is_machine unicode low top cached = is_right types h lo m now task_is is_machine unicode low top cached
 
@@ -52,14 +52,14 @@ module _ (laws : Laws) (task : Task) where
   abbrev GoWell : ℕ → World → List Report → Type 0
   GoWell lo v reports = AreRight task lo reports × EndsWell lo v reports
 
-  one_report : (types : List ServedShape) (i lo m : ℕ) (h : History) (now : Cache) (others : List Report) (v : World) → IsStillTask types task → IsMachine types h → AreUnicode h.changes → lo ≤ m → m ≤ h.current → IsCache (server_of task h) m (Some now)
+  one_report : (types : List ServedShape) (i lo m : ℕ) (h : History) (now : Cache) (others : List Report) (v : World) → IsStillTask types task → IsMachine types h → AreUnicode h.changes → lo ≤ m → m ≤ h.current → IsCacheOf (server_of task h) m (Some now)
       → ((lo : ℕ) → lo ≤ m → GoWell lo v others) → GoWell lo v (record { event = i; machine = h; now = now } ∷ others)
   one_report types i lo m h now others v task_is is_machine unicode low top cached rest =
       let same : now.revision ≡ m = cached.0 in
       let on = rest now.revision (omega (arith, same)) in
       ((is_right types h lo m now task_is is_machine unicode low top cached, on.0), record { highest = on.1.highest; low = on.1.low; holds = on.1.holds })
 
-  between : (types : List ServedShape) (i lo m : ℕ) (h : History) (was now : Option Cache) (others : List Report) (v : World) → IsStillTask types task → IsMachine types h → AreUnicode h.changes → lo ≤ m → m ≤ h.current → IsCache (server_of task h) m now
+  between : (types : List ServedShape) (i lo m : ℕ) (h : History) (was now : Option Cache) (others : List Report) (v : World) → IsStillTask types task → IsMachine types h → AreUnicode h.changes → lo ≤ m → m ≤ h.current → IsCacheOf (server_of task h) m now
       → ((lo : ℕ) → lo ≤ m → GoWell lo v others) → GoWell lo v (reports_between i h was now ++ others)
   between types i lo m h was None others v task_is is_machine unicode low top cached rest = rest lo low
   between types i lo m h None (Some now) others v task_is is_machine unicode low top cached rest = one_report types i lo m h now others v task_is is_machine unicode low top cached rest

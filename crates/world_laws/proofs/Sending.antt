@@ -6,7 +6,7 @@ use Rattle.std.specs.List.{All}
 use Rattle.std.specs.Prelude.{◌==◌, nat_lt, if◌then◌else◌}
 use Rattle.decoder.specs.Wanted.{Wanted}
 use Rattle.reflector.specs.Client.{SyncPhase, Cache, Client, first, streaming, next}
-use Rattle.reflector.specs.FollowsLaws.{IsReplyTo, Follows, IsCache, IsListStep, Server, IsWatchStep, IsWatchReply}
+use Rattle.reflector.specs.FollowsLaws.{IsReplyTo, Follows, IsCacheOf, IsListStep, Server, IsWatchStep, IsWatchReply}
 use Rattle.reflector.specs.Items.{begun, unexpected}
 use Rattle.reflector.proofs.Grows.{watches-append}
 use Rattle.indexer.specs.Objects.{Stored}
@@ -67,7 +67,7 @@ module _ (server : Server) (wanted : Wanted) where
       record { low = follows.low; cache = follows.cache; sync = follows.sync; coming = λ e. absurd (true≢false (sym e ∙ silent)) }
 
   -- it may ask, and nothing was answered yet
-  pub nothing_comes : (m : ℕ) (asks : SyncPhase) (cache : Option Cache) → m ≤ server.top → IsCache server m cache → (q : ℕ) × IsReplyTo server wanted m asks cache [] q
+  pub nothing_comes : (m : ℕ) (asks : SyncPhase) (cache : Option Cache) → m ≤ server.top → IsCacheOf server m cache → (q : ℕ) × IsReplyTo server wanted m asks cache [] q
   nothing_comes m first cache low cached = (0, tt)
   nothing_comes m (next r token paged_list) cache low cached = (0, tt)
   nothing_comes m streaming None low cached = (0, tt)

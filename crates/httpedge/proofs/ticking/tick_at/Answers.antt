@@ -2,7 +2,7 @@ use Rattle.std.proofs.Common.{rules, sym, ap}
 use Rattle.std.specs.Prelude.{is_some}
 use Rattle.std.specs.BTreeMap.{get}
 use Rattle.std.specs.Ordering.{nat_cmp}
-use Rattle.httpedge.specs.ConnectionViews.{found_in, held_or, over_by}
+use Rattle.httpedge.specs.ConnectionViews.{found_in, held_or, closed_by}
 use Rattle.httpedge.proofs.Ticked.{found_put, none_ticks, put_keys, some_ticks}
 use Rattle.httpedge.proofs.ticking.tick_at.Goals as goal
 
@@ -15,7 +15,7 @@ returns-in-Some-clause-ticks c = λ types m before had_ended cut represents all.
     let new = c.tick_on.new.connection in
     let put = ((c.get_mut.follows.holds new).3 (search rules)).0 in
     some_ticks types c.args.ms c.args.id before (found_in c.args.held.now had_ended cut) (found_in (c.get_mut.follows.lender new) had_ended cut) _ new c.tick_on.result all
-    (ap (λ o. held_or o (over_by (had_ended c.args.id) (cut c.args.id))) (sym c.in-Some.ensures.value))
+    (ap (λ o. held_or o (closed_by (had_ended c.args.id) (cut c.args.id))) (sym c.in-Some.ensures.value))
     (found_put c.args.held.now (c.get_mut.follows.lender new) had_ended cut c.args.id new put)
     (λ x holds. c.tick_on.ensures.ticks types m x represents holds) (λ x holds. c.tick_on.ensures.due types x holds)
 

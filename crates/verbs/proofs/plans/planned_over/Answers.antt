@@ -3,5 +3,5 @@ use Rattle.api_types.specs.Served.{types_view}
 use Rattle.verbs.proofs.Recalling.{right_of}
 use Rattle.verbs.proofs.plans.planned_over.Goals as goal
 
-pub planned-requires-clause-coherent : goal.planned-requires-clause-coherent
-planned-requires-clause-coherent c = right_of (types_view c.args.all.now) c.args.call.now.target.kind _ c.args.known.now (sym c.in-Some.ensures.found) c.requires
+pub dispatch_scope-requires-clause-coherent : goal.dispatch_scope-requires-clause-coherent
+dispatch_scope-requires-clause-coherent c = right_of (types_view c.args.all.now) c.args.call.now.target.kind _ c.args.known.now (sym c.in-Some.ensures.found) c.requires

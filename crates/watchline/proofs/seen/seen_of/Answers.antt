@@ -2,11 +2,11 @@ use Rattle.std.proofs.Common.{◌∙◌, ap, ap₂}
 use Rattle.std.specs.Option.{option_map}
 use Rattle.history.specs.Read.{key_of}
 use Rattle.history.specs.Seen.{seen_by}
-use Rattle.watchline.specs.BatchViews.{if_labelled}
+use Rattle.watchline.specs.BatchViews.{body_if_selected}
 use Rattle.watchline.proofs.seen.seen_of.Goals as goal
 
 pub returns-clause-seen : goal.returns-clause-seen
 returns-clause-seen c =
     c.seen_by.ensures ∙ ap₂ (λ a b. seen_by c.args.change.revision (key_of c.args.change.key) a b)
-    (c.in_ok-before.ensures ∙ ap (if_labelled c.args.selector.now) (ap (option_map (λ o. o.body)) c.in_ok-stood.ensures.ok))
-    (c.in_ok-after.ensures ∙ ap (if_labelled c.args.selector.now) c.object_after-stands.ensures)
+    (c.in_ok-before.ensures ∙ ap (body_if_selected c.args.selector.now) (ap (option_map (λ o. o.body)) c.in_ok-stood.ensures.ok))
+    (c.in_ok-after.ensures ∙ ap (body_if_selected c.args.selector.now) c.object_after-stands.ensures)

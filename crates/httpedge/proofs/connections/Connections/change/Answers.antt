@@ -2,7 +2,7 @@ use Rattle.std.proofs.Common.{rules, Bool, Some, refl, sym, ap, subst, ◌∙◌
 use Rattle.std.specs.Prelude.{is_some, ⊤}
 use Rattle.httpedge.specs.ChangeViews.{Changes}
 use Rattle.httpedge.specs.Connections.{ended, is_open, with_phase}
-use Rattle.httpedge.specs.ConnectionViews.{Closes, ConnectionRepresents}
+use Rattle.httpedge.specs.ConnectionViews.{OpenIdsAfter, ConnectionRepresents}
 use Rattle.httpedge.specs.HubViews.{outcome_of}
 use Rattle.httpedge.specs.declared.connection.Connection as conns
 use Rattle.httpedge.proofs.Forgetting.{becomes_at, found_held, on_err_is, on_ok_is, pass_known, pass_taken, pass_unknown, some_of, with_held}
@@ -38,7 +38,7 @@ returns-in-Ok-clause-known c = λ types m d x represents at holds.
       made.1,
       becomes_at types (is_open made.0.phase) made.0 id self c.close.new.self c.forget.new.self (c.get_mut.follows.lender new) new made.2 (ap is_some (sym c.in-Some.ensures.value)) at.2
           ((c.get_mut.follows.holds new).3 (search rules)).0 c.close.ensures.held c.close.ensures.ended c.close.ensures.cut c.close.ensures.highest
-          (subst (λ (b : Bool). Closes id b self c.close.new.self) still c.close.ensures.closes)
+          (subst (λ (b : Bool). OpenIdsAfter id b self c.close.new.self) still c.close.ensures.closes)
           (λ there apart. c.forget.ensures new there (sym c.had_ended_if_over-had_ended.ensures) apart),
     )
 
@@ -56,6 +56,6 @@ returns-in-Err-clause-known c = λ types m d x represents at holds.
       on_err_is c.change-changed.result _ c.in-Err.is (c.change-changed.ensures.err types m represents),
       becomes_at types _ (with_phase x ended) id self c.close.new.self c.forget.new.self (c.get_mut.follows.lender new) new killed (ap is_some (sym c.in-Some.ensures.value)) at.2
           ((c.get_mut.follows.holds new).3 (search rules)).0 c.close.ensures.held c.close.ensures.ended c.close.ensures.cut c.close.ensures.highest
-          (subst (λ (b : Bool). Closes id b self c.close.new.self) still c.close.ensures.closes)
+          (subst (λ (b : Bool). OpenIdsAfter id b self c.close.new.self) still c.close.ensures.closes)
           (λ there apart. c.forget.ensures new there (sym c.had_ended_if_over-had_ended.ensures) apart),
     )

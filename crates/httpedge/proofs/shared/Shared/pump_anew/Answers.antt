@@ -5,7 +5,7 @@ use Rattle.watchline.specs.declared.cursor.ResumePoint.{ResumePoint}
 use Rattle.watchline.specs.Watches.{Cursor, Turn}
 use Rattle.requests.specs.ReplyBytes.{chunks}
 use Rattle.httpedge.specs.ConnectionViews.{left}
-use Rattle.httpedge.specs.SharedViews.{TurnEnds, SharedRepresents}
+use Rattle.httpedge.specs.SharedViews.{TurnSpan, SharedRepresents}
 use Rattle.httpedge.specs.declared.shared.Shared.{Shared}
 use Rattle.httpedge.proofs.Alike.{is_last}
 use Rattle.httpedge.proofs.shared.Shared.pump_anew.Goals as goal
@@ -26,10 +26,10 @@ pub returns-clause-serves : goal.returns-clause-serves
 returns-clause-serves c = λ types m serves.
     let sent = c.in_ok-pumped.ensures.pumped types m serves.0 in
     let still = c.pump.ensures.same types m serves.0 in
-    elim c.match-ends_to_cache.branch [
+    elim c.match-span_to_cache.branch [
       | in-Some w ↦ subst (λ (s : Shared). SharedRepresents s types m) (sym w.self-is)
           (w.keep.ensures types m (still, serves.1)
           (is_last m _ c.args.cursor.now c.pump.new.cursor c.resume_point-before.result c.in_ok-pumped.pumped sent c.resume_point-before.ensures.sent c.resume_point-before.ensures.some
-          (subst (λ (o : Option (Cursor × ResumePoint)). IfSome o (λ p. TurnEnds c.resume_point-before.result c.pump.new.cursor p.0 p.1)) w.in-Some.is c.ends_to_cache.ensures) refl (bytes c)))
+          (subst (λ (o : Option (Cursor × ResumePoint)). IfSome o (λ p. TurnSpan c.resume_point-before.result c.pump.new.cursor p.0 p.1)) w.in-Some.is c.span_to_cache.ensures) refl (bytes c)))
       | in_default w ↦ subst (λ (s : Shared). SharedRepresents s types m) (sym w.self-is) (still, serves.1)
     ]

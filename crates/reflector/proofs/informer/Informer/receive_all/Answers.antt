@@ -2,7 +2,7 @@ use Rattle.std.proofs.Common.{◌+◌, map, take, drop, sym, ap, subst, ◌∙�
 use Rattle.std.proofs.lemmas.List.{map-append}
 use Rattle.wireclient.specs.Views.{reply_item_of}
 use Rattle.reflector.specs.ReceivedViews.{ReceivedSome}
-use Rattle.reflector.specs.InformerViews.{TracksButReader, settings_in}
+use Rattle.reflector.specs.InformerViews.{RepresentsExceptReader, settings_in}
 use Rattle.reflector.specs.Run.{receives, receives_all}
 use Rattle.reflector.specs.RelistReasons.{relist_reason_after, relist_reason_with}
 use Rattle.reflector.proofs.ReceivedItems.{next_received, on_err}
@@ -21,9 +21,9 @@ loop-item-preserved g c =
       received = λ cl t k.
           let d = receives_all wanted cl (map reply_item_of (take i items)) in
           let u = relist_reason_after wanted cl t (map reply_item_of (take i items)) in
-          subst (λ e. TracksButReader g.I.IndexBy.keys c.receive.new.self e (relist_reason_after wanted cl t (map reply_item_of (take (i + 1) items)))) (sym (next_received reply_item_of wanted cl items i c.item-item.result c.loop-item-test.true c.item-item.is))
-          (subst (TracksButReader g.I.IndexBy.keys c.receive.new.self (receives wanted d x)) (sym (next_relist_reason reply_item_of wanted cl t items i c.item-item.result c.loop-item-test.true c.item-item.is))
-          (subst (λ w. TracksButReader g.I.IndexBy.keys c.receive.new.self (receives w d x) (relist_reason_with w d u x)) (ap (λ s. s.wanted) before.setup.settings) (now.received d u (before.received cl t k))));
+          subst (λ e. RepresentsExceptReader g.I.IndexBy.keys c.receive.new.self e (relist_reason_after wanted cl t (map reply_item_of (take (i + 1) items)))) (sym (next_received reply_item_of wanted cl items i c.item-item.result c.loop-item-test.true c.item-item.is))
+          (subst (RepresentsExceptReader g.I.IndexBy.keys c.receive.new.self (receives wanted d x)) (sym (next_relist_reason reply_item_of wanted cl t items i c.item-item.result c.loop-item-test.true c.item-item.is))
+          (subst (λ w. RepresentsExceptReader g.I.IndexBy.keys c.receive.new.self (receives w d x) (relist_reason_with w d u x)) (ap (λ s. s.wanted) before.setup.settings) (now.received d u (before.received cl t k))));
       read = λ bytes emitted is. now.read bytes emitted (before.read bytes emitted is);
       setup = record { settings = now.setup.settings ∙ before.setup.settings; indexes = now.setup.indexes ∙ before.setup.indexes; names = now.setup.names ∙ before.setup.names };
     }
@@ -43,5 +43,5 @@ returns-in_err-receive-clause-some g c = λ cl t k.
 pub returns-clause-received : goal.returns-clause-received
 returns-clause-received g c = λ cl t k.
     let wanted = (settings_in c.args.self.now).wanted in
-    subst (λ xs. TracksButReader g.I.IndexBy.keys c.loop-item.self (receives_all wanted cl (map reply_item_of xs)) (relist_reason_after wanted cl t (map reply_item_of xs))) (take_all c.loop-item.item-index c.args.items.now c.loop-item-test.false)
+    subst (λ xs. RepresentsExceptReader g.I.IndexBy.keys c.loop-item.self (receives_all wanted cl (map reply_item_of xs)) (relist_reason_after wanted cl t (map reply_item_of xs))) (take_all c.loop-item.item-index c.args.items.now c.loop-item-test.false)
     (c.loop-item.invariant.received cl t k)

@@ -2,7 +2,7 @@ use Rattle.std.proofs.Common.{◌≡◌, None, List, [], map, is_some, ap, refl,
 use Rattle.std.proofs.lemmas.Result.{on_err_weaker, on_ok_weaker}
 use Rattle.wireclient.specs.Reply.{ReplyItem}
 use Rattle.wireclient.specs.Views.{reply_item_of}
-use Rattle.reflector.specs.InformerViews.{TracksButReader, settings_in}
+use Rattle.reflector.specs.InformerViews.{RepresentsExceptReader, settings_in}
 use Rattle.reflector.specs.ReadingViews.{AreReceived, IsRead, reader_of}
 use Rattle.reflector.specs.Run.{receives_all}
 use Rattle.reflector.specs.MirrorRepresentsViews.{MirrorRepresents}
@@ -22,7 +22,7 @@ returns-clause-received g c = λ cl bytes emitted run awaiting_reply.
       map reply_item_of items,
       c.receive_all.ensures.read _ _ is_read,
       is_read.1,
-      subst (λ xs. TracksButReader g.I.IndexBy.keys c.receive_all.new.self (receives_all wanted cl (map reply_item_of xs)) (relist_reason_after wanted cl None (map reply_item_of xs))) c.deref.ensures.value k,
+      subst (λ xs. RepresentsExceptReader g.I.IndexBy.keys c.receive_all.new.self (receives_all wanted cl (map reply_item_of xs)) (relist_reason_after wanted cl None (map reply_item_of xs))) c.deref.ensures.value k,
     ))
     (c.receive_all.ensures.received cl None (record { mirror = run.kept.mirror; sync = run.kept.sync; awaiting_reply = subst (λ r. is_some (reader_of r) ≡ cl.is_awaiting_reply) c.in-Open.is run.kept.awaiting_reply; relist_reason = refl }))
 

@@ -3,7 +3,7 @@ use Rattle.std.specs.Prelude.{string_bytes}
 use Rattle.objects.specs.Views.{state_of}
 use Rattle.history.specs.Read.{key_of}
 use Rattle.verbs.specs.Machine.{identity_of}
-use Rattle.verbs.specs.Step.{printed, text_at}
+use Rattle.verbs.specs.Step.{object_value_at, text_at}
 use Rattle.verbs.specs.PlannerViews.{type_of}
 use Rattle.verbs.proofs.Counts.{counted}
 use Rattle.verbs.proofs.Recalling.{answer_says}
@@ -14,7 +14,7 @@ returns-clause-plan c =
     let t = type_of c.args.self in
     let k = key_of c.args.key in
     let s = state_of c.args.owned.now in
-    let object = printed t k (suc c.args.self.current) s in
+    let object = object_value_at t k (suc c.args.self.current) s in
     c.plan_put_text.ensures.plan object (c.in_ok-text.ensures.text ∙ ap (λ (n : ℕ). text_at t k n s) (add-one c.args.self.current))
     (c.in_ok-text.ensures.labels (identity_of t k) (suc c.args.self.current) ∙ counted object)
 

@@ -6,9 +6,9 @@ use Rattle.lists.specs.Labels.{selection_of}
 use Rattle.history.specs.Read.{entry_of}
 use Rattle.watchline.specs.Lines.{added, line_of}
 use Rattle.watchline.specs.Views.{seen_change_of, cursor_of, initial_left_of, lines_in}
-use Rattle.watchline.specs.Watches.{changes_left, from_view, left_past, objects_left, position_by}
+use Rattle.watchline.specs.Watches.{changes_left, from_view, initial_left_after_count, objects_left, position_by}
 use Rattle.watchline.proofs.Coming.{turned}
-use Rattle.watchline.proofs.sending.sent.Goals as goal
+use Rattle.watchline.proofs.sending.next_turn.Goals as goal
 
 pub returns-clause-sent : goal.returns-clause-sent
 returns-clause-sent c =
@@ -28,7 +28,7 @@ returns-clause-sent c =
     ∙ ap (λ n. take n (changes_left s w)) (c.saturating_sub-room.ensures ∙ ap (λ n. c.args.max - n) (c.len.ensures ∙ c.in_ok-objects.objects.ok.0 ∙ sym (length-map c.in_ok-objects.objects.items entry_of)))
     )
     lines (c.in_ok-lines.ensures ∙ ap₂ (λ os cs. map line_of (map added (map entry_of os) ++ map seen_change_of cs)) c.deref.ensures.value c.deref-2.ensures.value)
-    next.position next.sent (initial_left_of next.left) (left_past c.args.max (objects_left s w) w.left)
+    next.position next.sent (initial_left_of next.left) (initial_left_after_count c.args.max (objects_left s w) w.left)
     (
     c.moved-next.ensures.position
     ∙ ap₂ (λ b cs. position_by b c.current-current.result (reached progress.position (map seen_change_of cs)))

@@ -3,7 +3,7 @@ use Rattle.verbs.specs.PlannerViews.{call_of_entry, type_of}
 use Rattle.verbs.specs.Views.{objects_in}
 use Rattle.verbs.specs.Step.{key_at}
 use Rattle.verbs.proofs.Planning.{readable_at}
-use Rattle.verbs.proofs.planner.Planner.planned.Goals as goal
+use Rattle.verbs.proofs.planner.Planner.dispatch_scope.Goals as goal
 
 pub returns-in-Object-Put-clause-readable : goal.returns-in-Object-Put-clause-readable
 returns-in-Object-Put-clause-readable c = λ all serves texts.
