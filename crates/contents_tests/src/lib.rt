@@ -10,7 +10,7 @@ mod borrowed;
 #[cfg(test)]
 mod contents;
 #[cfg(test)]
-mod discovery;
+mod discovery_documents;
 #[cfg(test)]
 mod elements;
 #[cfg(test)]

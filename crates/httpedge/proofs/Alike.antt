@@ -3,7 +3,7 @@ use Rattle.std.proofs.Common.{◌≡◌, ℕ, zero, suc, Bool, true, false, true
 use Rattle.std.specs.Prelude.{nat_lt, is_some, IfSome}
 use Rattle.history.specs.History.{History, Key, Object}
 use Rattle.watchline.specs.Views.{lines_in, turn_of}
-use Rattle.watchline.specs.Watches.{Cursor, InitialLeft, HistoryWindow, is_none_left, no_initial_left, initial_left_from, Turn, entries_left, expiring, from_history, initial_left_after, initial_left_after_count, moved, pumped, sending, with_bookmarks}
+use Rattle.watchline.specs.Watches.{Cursor, InitialLeft, HistoryWindow, is_none_left, no_initial_left, initial_left_from, Turn, entries_left, expiring, from_history, initial_left_by_next, initial_left_after_count, moved, pumped, sending, with_bookmarks}
 use Rattle.watchline.specs.declared.cursor.ResumePoint.{ResumePoint}
 use Rattle.watchline.specs.declared.cursor.Pumped.{Pumped as ThePumped}
 use Rattle.requests.specs.ReplyBytes.{chunks}
@@ -34,7 +34,7 @@ Stays w next = next ≡ moved w next.position next.sent w.left
 from_isnt : (place : Option (List ℕ × List ℕ)) → initial_left_from place ≡ no_initial_left → ⊥
 from_isnt place e = cc
 
-either : (b : Bool) → initial_left_after (cond b None None) ≡ no_initial_left
+either : (b : Bool) → initial_left_by_next (cond b None None) ≡ no_initial_left
 either true = refl
 either false = refl
 

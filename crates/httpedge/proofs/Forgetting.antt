@@ -11,7 +11,7 @@ use Rattle.httpedge.specs.declared.shared.Shared.{Shared}
 use Rattle.httpedge.specs.SharedViews.{SharedRepresents}
 use Rattle.httpedge.specs.declared.connection.Connection as conns
 use Rattle.httpedge.specs.declared.connection.Connection.TheVariants as conn
-use Rattle.httpedge.specs.declared.connections.Connections.{Connections as Kept}
+use Rattle.httpedge.specs.declared.connections.Connections.{Connections as TheConnections}
 use Rattle.httpedge.specs.declared.event.ConnectionInput as changes
 use Rattle.httpedge.specs.declared.event.ConnectionInput.TheVariants as change
 use Rattle.httpedge.specs.declared.ids.Ids.{Ids}
@@ -52,10 +52,10 @@ self_put f id d at q = go (eq_by_cmp nat_cmp id q) (tied_same id q)
 here : (held held' : Map) (id : ℕ) (e : conns.Connection) → ((q : ℕ) → get nat_cmp held' q ≡ cond (eq_by_cmp nat_cmp id q) (Some e) (get nat_cmp held q)) → get nat_cmp held' id ≡ Some e
 here held held' id e put = put id ∙ ap (λ (b : Bool). cond b (Some e) (get nat_cmp held id)) (itself id)
 
-abbrev pub with_held : Kept → Map → Kept
+abbrev pub with_held : TheConnections → Map → TheConnections
 with_held k h = record { held = h; open_ids = k.open_ids; ended = k.ended; cut = k.cut; highest = k.highest }
 
-pub found_held : (k : Kept) (id : ℕ) (o : Option conns.Connection) → get nat_cmp k.held id ≡ o → found k id ≡ held_or o (closed_by (is_in k.ended.ranges id) (is_in k.cut.ranges id))
+pub found_held : (k : TheConnections) (id : ℕ) (o : Option conns.Connection) → get nat_cmp k.held id ≡ o → found k id ≡ held_or o (closed_by (is_in k.ended.ranges id) (is_in k.cut.ranges id))
 found_held k id o at = ap (λ (o : Option conns.Connection). held_or o (closed_by (is_in k.ended.ranges id) (is_in k.cut.ranges id))) at
 
 -- one that isn't held had ended or not; it doesn't wait, and nothing is out on it
@@ -81,7 +81,7 @@ known_over false false = refl
 
 -- ---- a connection is changed, and then forgotten where it is over
 
-still_apart : (old : Kept) (held' : Map) (id : ℕ) (e : conns.Connection) → is_some (get nat_cmp old.held id) ≡ true → IsApart old
+still_apart : (old : TheConnections) (held' : Map) (id : ℕ) (e : conns.Connection) → is_some (get nat_cmp old.held id) ≡ true → IsApart old
     → ((q : ℕ) → get nat_cmp held' q ≡ cond (eq_by_cmp nat_cmp id q) (Some e) (get nat_cmp old.held q)) → (q : ℕ) → is_some (get nat_cmp held' q) ≡ true → is_in old.ended.ranges q ≡ false
 still_apart old held' id e was apart put q has = go (eq_by_cmp nat_cmp id q) (tied_same id q) (sym (ap is_some (put q)) ∙ has)
   where
@@ -89,7 +89,7 @@ still_apart old held' id e was apart put q has = go (eq_by_cmp nat_cmp id q) (ti
     go true same now = apart q (ap (λ (k : ℕ). is_some (get nat_cmp old.held k)) (sym (same refl)) ∙ was)
     go false same now = apart q now
 
-pub becomes_at : (types : List ServedShape) (still : Bool) (c : Connection) (id : ℕ) (old mid new : Kept) (held' : Map) (e : conns.Connection) → ConnectionRepresents types e c
+pub becomes_at : (types : List ServedShape) (still : Bool) (c : Connection) (id : ℕ) (old mid new : TheConnections) (held' : Map) (e : conns.Connection) → ConnectionRepresents types e c
     → is_some (get nat_cmp old.held id) ≡ true → IsApart old → ((q : ℕ) → get nat_cmp held' q ≡ cond (eq_by_cmp nat_cmp id q) (Some e) (get nat_cmp old.held q))
     → mid.held ≡ held' → mid.ended ≡ old.ended → mid.cut ≡ old.cut → mid.highest ≡ old.highest → OpenIdsAfter id still old mid
     → (get nat_cmp mid.held id ≡ Some e → IsApart mid → Forgets id e mid new) → BecomesAt types still c id old new
@@ -113,7 +113,7 @@ becomes_at types still c id old mid new held' e holds was apart put held_is ende
     mid_apart : IsApart mid
     mid_apart q has = ap (λ (i : Ids). is_in i.ranges q) ended_is ∙ still_apart old held' id e was apart put q (sym (ap (λ (m : Map). is_some (get nat_cmp m q)) held_is) ∙ has)
 
-pub closes_none : (id : ℕ) (k : Kept) → OpenIdsAfter id true k k
+pub closes_none : (id : ℕ) (k : TheConnections) → OpenIdsAfter id true k k
 closes_none id k q = go (eq_by_cmp nat_cmp id q) (contains nat_cmp k.open_ids q)
   where
     go : (b x : Bool) → x ≡ cond b (x && true) x
@@ -154,7 +154,7 @@ over_holds types (conn.Ended out) c h over holds = none_left types out c h (leng
 over_holds types (conn.Closed had_ended) c h over (closed, had, none) = (closed, had ∙ some_of over, none)
 
 -- it is held as it was
-pub forgets_none : (id : ℕ) (d : conns.Connection) (old new : Kept) → get nat_cmp old.held id ≡ Some d → IsApart old → new.held ≡ old.held → new.open_ids ≡ old.open_ids → new.highest ≡ old.highest
+pub forgets_none : (id : ℕ) (d : conns.Connection) (old new : TheConnections) → get nat_cmp old.held id ≡ Some d → IsApart old → new.held ≡ old.held → new.open_ids ≡ old.open_ids → new.highest ≡ old.highest
     → ((q : ℕ) → is_in new.ended.ranges q ≡ is_in old.ended.ranges q) → ((q : ℕ) → is_in new.cut.ranges q ≡ is_in old.cut.ranges q) → Forgets id d old new
 forgets_none id d old new at apart held_is open_is highest_is ended_is cut_is = record {
   one = d;
@@ -168,7 +168,7 @@ forgets_none id d old new at apart held_is open_is highest_is ended_is cut_is = 
 }
 
 -- its id is kept
-pub forgets_one : (id : ℕ) (d : conns.Connection) (h : Bool) (old new : Kept) → get nat_cmp old.held id ≡ Some d → had_ended_if_over_in d ≡ Some h → IsApart old
+pub forgets_one : (id : ℕ) (d : conns.Connection) (h : Bool) (old new : TheConnections) → get nat_cmp old.held id ≡ Some d → had_ended_if_over_in d ≡ Some h → IsApart old
     → ((q : ℕ) → get nat_cmp new.held q ≡ cond (eq_by_cmp nat_cmp id q) None (get nat_cmp old.held q)) → new.open_ids ≡ old.open_ids → new.highest ≡ old.highest
     → ((q : ℕ) → is_in new.ended.ranges q ≡ cond (eq_by_cmp nat_cmp id q) h (is_in old.ended.ranges q))
     → ((q : ℕ) → is_in new.cut.ranges q ≡ cond (eq_by_cmp nat_cmp id q && cond h false true) true (is_in old.cut.ranges q)) → Forgets id d old new
@@ -233,7 +233,7 @@ is_over true b d is = (true, sym (some_of is))
 is_over false true d is = (false, sym (some_of is))
 is_over false false d is = absurd (none_some is)
 
-pub passes : (types : List ServedShape) (m : History) (last_tick : ℕ) (what : changes.ConnectionInput) (id : ℕ) (d : conns.Connection) (c : Connection) (k : Kept) (shared : Shared) → SharedRepresents shared types m
+pub passes : (types : List ServedShape) (m : History) (last_tick : ℕ) (what : changes.ConnectionInput) (id : ℕ) (d : conns.Connection) (c : Connection) (k : TheConnections) (shared : Shared) → SharedRepresents shared types m
     → get nat_cmp k.held id ≡ None → IsAt id d k → ConnectionRepresents types d c → Changes types m last_tick what id c k k shared done
 passes types m last_tick what id d c k shared represents none (at, there, apart) holds =
     let over = is_over (is_in k.ended.ranges id) (is_in k.cut.ranges id) d
@@ -259,7 +259,7 @@ passes types m last_tick what id d c k shared represents none (at, there, apart)
     go q x closed true same shut = no_more (contains nat_cmp k.open_ids q) (ap (contains nat_cmp k.open_ids) (sym (same refl)) ∙ shut) x closed
     go q x closed false same shut = refl
 
-pub takes_passed : (types : List ServedShape) (id n : ℕ) (d : conns.Connection) (c : Connection) (old new : Kept) → get nat_cmp old.held id ≡ None → new ≡ old → IsAt id d old → ConnectionRepresents types d c
+pub takes_passed : (types : List ServedShape) (id n : ℕ) (d : conns.Connection) (c : Connection) (old new : TheConnections) → get nat_cmp old.held id ≡ None → new ≡ old → IsAt id d old → ConnectionRepresents types d c
     → BecomesAt types true (with_taken c n) id old new
 takes_passed types id n d c old new none same (at, there, apart) holds =
     let over = is_over (is_in old.ended.ranges id) (is_in old.cut.ranges id) d (sym (found_held old id None none) ∙ at) in
@@ -275,23 +275,23 @@ takes_passed types id n d c old new none same (at, there, apart) holds =
 known_by : (a b : Bool) (f : Option conns.Connection) → held_or None (closed_by a b) ≡ f → is_some (had_ended_by_ids a b) ≡ is_some f
 known_by a b f is = known_over a b ∙ ap is_some is
 
-abbrev pub Passes : Kept → ℕ → Outcome → Type 0
+abbrev pub Passes : TheConnections → ℕ → Outcome → Type 0
 Passes k id o = o ≡ cond (is_some (had_ended_by_ids (is_in k.ended.ranges id) (is_in k.cut.ranges id))) done (refused unknown_id)
 
-passed_is : (k : Kept) (id : ℕ) (f : Option conns.Connection) (o : Outcome) → get nat_cmp k.held id ≡ None → Passes k id o → found k id ≡ f → o ≡ cond (is_some f) done (refused unknown_id)
+passed_is : (k : TheConnections) (id : ℕ) (f : Option conns.Connection) (o : Outcome) → get nat_cmp k.held id ≡ None → Passes k id o → found k id ≡ f → o ≡ cond (is_some f) done (refused unknown_id)
 passed_is k id f o none passes is =
     passes ∙ ap (λ (b : Bool). cond b done (refused unknown_id)) (known_by (is_in k.ended.ranges id) (is_in k.cut.ranges id) f (sym (found_held k id None none) ∙ is))
 
-pub pass_known : (types : List ServedShape) (m : History) (last_tick : ℕ) (what : changes.ConnectionInput) (id : ℕ) (d : conns.Connection) (c : Connection) (old new : Kept) (shared : Shared) (o : Outcome) → SharedRepresents shared types m
+pub pass_known : (types : List ServedShape) (m : History) (last_tick : ℕ) (what : changes.ConnectionInput) (id : ℕ) (d : conns.Connection) (c : Connection) (old new : TheConnections) (shared : Shared) (o : Outcome) → SharedRepresents shared types m
     → get nat_cmp old.held id ≡ None → new ≡ old → Passes old id o → IsAt id d old → ConnectionRepresents types d c → Changes types m last_tick what id c old new shared o
 pass_known types m last_tick what id d c old new shared o represents none same passed at holds =
     subst (Changes types m last_tick what id c old new shared) (sym (passed_is old id (Some d) o none passed at.0))
-    (subst (λ (k : Kept). Changes types m last_tick what id c old k shared done) (sym same) (passes types m last_tick what id d c old shared represents none at holds))
+    (subst (λ (k : TheConnections). Changes types m last_tick what id c old k shared done) (sym same) (passes types m last_tick what id d c old shared represents none at holds))
 
-pub pass_unknown : (old : Kept) (id : ℕ) (o : Outcome) → get nat_cmp old.held id ≡ None → Passes old id o → found old id ≡ None → o ≡ refused unknown_id
+pub pass_unknown : (old : TheConnections) (id : ℕ) (o : Outcome) → get nat_cmp old.held id ≡ None → Passes old id o → found old id ≡ None → o ≡ refused unknown_id
 pass_unknown old id o none passed is = passed_is old id None o none passed is
 
-pub pass_taken : (old : Kept) (id : ℕ) (o : Outcome) → get nat_cmp old.held id ≡ None → Passes old id o → is_some (found old id) ≡ true → refusal_in o ≡ None
+pub pass_taken : (old : TheConnections) (id : ℕ) (o : Outcome) → get nat_cmp old.held id ≡ None → Passes old id o → is_some (found old id) ≡ true → refusal_in o ≡ None
 pass_taken old id o none passed is = go (found old id) refl is
   where
     go : (f : Option conns.Connection) → found old id ≡ f → is_some f ≡ true → refusal_in o ≡ None
@@ -314,7 +314,7 @@ fresh_parts None true b is = absurd (none_some (sym is))
 fresh_parts None false b is = (refl, refl)
 fresh_parts (Some d) a b is = absurd (none_some (sym is))
 
-pub opens_one : (id : ℕ) (d : conns.Connection) (old new : Kept) → IsFresh id old → ((q : ℕ) → get nat_cmp new.held q ≡ cond (eq_by_cmp nat_cmp id q) (Some d) (get nat_cmp old.held q))
+pub opens_one : (id : ℕ) (d : conns.Connection) (old new : TheConnections) → IsFresh id old → ((q : ℕ) → get nat_cmp new.held q ≡ cond (eq_by_cmp nat_cmp id q) (Some d) (get nat_cmp old.held q))
     → ((q : ℕ) → contains nat_cmp new.open_ids q ≡ cond (eq_by_cmp nat_cmp id q) (is_open_in d) (contains nat_cmp old.open_ids q)) → new.ended ≡ old.ended → new.cut ≡ old.cut → new.highest ≡ Some id
     → Opens id d old new
 opens_one id d old new (none, shut, apart) put listed ended_is cut_is highest = record {
@@ -330,7 +330,7 @@ opens_one id d old new (none, shut, apart) put listed ended_is cut_is highest = 
     go q true same now = ap (is_in old.ended.ranges) (sym (same refl)) ∙ (fresh_parts (get nat_cmp old.held id) (is_in old.ended.ranges id) (is_in old.cut.ranges id) none).1
     go q false same now = apart q now
 
-pub same_opened : (id : ℕ) (old new : Kept) → IsFresh id old → ((q : ℕ) → get nat_cmp new.held q ≡ get nat_cmp old.held q) → ((q : ℕ) → contains nat_cmp new.open_ids q ≡ contains nat_cmp old.open_ids q)
+pub same_opened : (id : ℕ) (old new : TheConnections) → IsFresh id old → ((q : ℕ) → get nat_cmp new.held q ≡ get nat_cmp old.held q) → ((q : ℕ) → contains nat_cmp new.open_ids q ≡ contains nat_cmp old.open_ids q)
     → new.ended ≡ old.ended → new.cut ≡ old.cut → new.highest ≡ old.highest → IsSame old new
 same_opened id old new (none, shut, apart) held_is open_is ended_is cut_is highest_is = record {
   found_is = λ q. ap₂ held_or (held_is q) (ap₂ closed_by (ap (λ (i : Ids). is_in i.ranges q) ended_is) (ap (λ (i : Ids). is_in i.ranges q) cut_is));

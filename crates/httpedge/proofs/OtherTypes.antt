@@ -35,7 +35,7 @@ use Rattle.requests.specs.Heads.{HeadDecision, Request}
 use Rattle.requests.specs.Pendings.{Awaits, pending_call}
 use Rattle.httpedge.specs.declared.connection.Connection as conns
 use Rattle.httpedge.specs.declared.connection.Connection.TheVariants as conn
-use Rattle.httpedge.specs.declared.connections.Connections.{Connections as Kept}
+use Rattle.httpedge.specs.declared.connections.Connections.{Connections as TheConnections}
 use Rattle.httpedge.specs.Connections.{Connection}
 use Rattle.httpedge.specs.ConnectionViews.{ConnectionRepresents, ConnectionRepresentsAt, PartsRepresent, found}
 use Rattle.httpedge.specs.Runs.{lasting}
@@ -173,7 +173,7 @@ same_held types others lasts None (Some c) holds = absurd holds
 same_held types others lasts (Some d) None holds = absurd holds
 same_held types others lasts (Some d) (Some c) holds = same_holds types others lasts d c holds
 
-pub others_represent : (s : State) (others : List ServedShape) (m : History) (shared shared' : Shared) (k : Kept) → LastsIn s.types others → PartsRepresent shared k s → SharedRepresents shared' others m
+pub others_represent : (s : State) (others : List ServedShape) (m : History) (shared shared' : Shared) (k : TheConnections) → LastsIn s.types others → PartsRepresent shared k s → SharedRepresents shared' others m
     → PartsRepresent shared' k (record s { types = others; machine = m })
 others_represent s others m shared shared' k lasts is represents = record {
   machine = represents;

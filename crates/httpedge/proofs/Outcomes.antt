@@ -150,7 +150,7 @@ one_step s t u e (a, asks, is) (b, also, that) = is ∙ ap (stepped s e) (one_as
 
 one_follows : (s t u : State) (h : Action) → Follows s h t → Follows s h u → t ≡ u
 one_follows s t u (happens e) is that = one_step s t u e is that
-one_follows s t u (runs_out_of_memory e some_ran_out) is that = is.2 ∙ sym that.2
+one_follows s t u (runs_out_of_memory e ran_out_on) is that = is.2 ∙ sym that.2
 one_follows s t u (takes id n) is that = is ∙ sym that
 
 pub one_run : (s t u : State) (hs : List Action) → Runs s hs t → Runs s hs u → t ≡ u

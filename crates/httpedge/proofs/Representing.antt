@@ -22,7 +22,7 @@ use Rattle.verbs.specs.declared.fault.Fault.{Fault}
 use Rattle.verbs.specs.declared.fault.Fault.TheVariants as failed
 use Rattle.httpedge.specs.declared.connection.Connection as conns
 use Rattle.httpedge.specs.declared.connection.Connection.TheVariants as conn
-use Rattle.httpedge.specs.declared.connections.Connections.{Connections as Kept}
+use Rattle.httpedge.specs.declared.connections.Connections.{Connections as TheConnections}
 use Rattle.httpedge.specs.declared.event.ConnectionInput as changes
 use Rattle.httpedge.specs.declared.event.ConnectionInput.TheVariants as change
 use Rattle.httpedge.specs.declared.fault.HubFault.{HubFault}
@@ -178,7 +178,7 @@ no_entry (x ∷ es) e = absurd (omega (arith, e))
 no_entries : fin.entries ((fin.empty {X = Connection} {R = nat_cmp})) ≡ []
 no_entries = no_entry (fin.entries (fin.empty {X = Connection} {R = nat_cmp})) (sym (fin.len-entries (fin.empty {X = Connection} {R = nat_cmp})) ∙ fin.len-empty nat_cmp Connection)
 
-pub start_in : (types : List ServedShape) (m : History) (shared : Shared) (k : Kept) → SharedRepresents shared types m → k.held.entries ≡ [] → k.open_ids.keys ≡ [] → ((q : ℕ) → is_in k.ended.ranges q ≡ false)
+pub start_in : (types : List ServedShape) (m : History) (shared : Shared) (k : TheConnections) → SharedRepresents shared types m → k.held.entries ≡ [] → k.open_ids.keys ≡ [] → ((q : ℕ) → is_in k.ended.ranges q ≡ false)
     → ((q : ℕ) → is_in k.cut.ranges q ≡ false) → k.highest ≡ None → PartsRepresent shared k (start types m)
 start_in types m shared k represents none shut had cut first = record {
   machine = represents;
@@ -193,7 +193,7 @@ start_in types m shared k represents none shut had cut first = record {
     nothing q = ap (λ (es : List (ℕ × conns.Connection)). held_or (lookup (is_at (nat_cmp q)) es) (closed_by (is_in k.ended.ranges q) (is_in k.cut.ranges q))) none ∙ ap₂ closed_by (had q) (cut q)
 
 -- the code holds a state to which the event leads
-abbrev pub Done : State → Event → Shared → Kept → Type 0
+abbrev pub Done : State → Event → Shared → TheConnections → Type 0
 Done s e shared k = (t : State) × Steps s e t × PartsRepresent shared k t × (t.last_tick ≡ s.last_tick)
 
 -- ---- an opening
@@ -215,7 +215,7 @@ held_none types (Some d) None holds is = absurd holds
 held_none types (Some d) (Some c) holds is = absurd cc
 
 -- an id above the highest is that of no connection
-pub opens_fresh : (s : State) (id : ℕ) (shared : Shared) (old : Kept) → PartsRepresent shared old s → is_above old.highest id ≡ true → IsFresh id old
+pub opens_fresh : (s : State) (id : ℕ) (shared : Shared) (old : TheConnections) → PartsRepresent shared old s → is_above old.highest id ≡ true → IsFresh id old
 opens_fresh s id shared old held above =
     let none : fin.get s.connections id ≡ None = unknown s.connections id (fin.get s.connections id) refl (held.highest_is id ∙ above) in
     (held_none s.types (found old id) (fin.get s.connections id) (held.connections id) none, held.open_is id ∙ ap open_in none, held.apart)
@@ -229,13 +229,13 @@ open_put all id q c x y one other =
     put_open (eq_by_cmp nat_cmp id q) x y c (fin.get all q) one other
     ∙ sym (ap open_in (fin.get-insert nat_cmp_total all id c q ∙ ap (λ (t : Bool). cond t (Some c) (fin.get all q)) ((eq_by_cmp_equiv nat_cmp_total).symm q id)))
 
-pub opens_refused : (s : State) (shared : Shared) (k : Kept) (id : ℕ) → PartsRepresent shared k s → is_above k.highest id ≡ false → refusal s (opens id) ≡ Some id_not_above
+pub opens_refused : (s : State) (shared : Shared) (k : TheConnections) (id : ℕ) → PartsRepresent shared k s → is_above k.highest id ≡ false → refusal s (opens id) ≡ Some id_not_above
 opens_refused s shared k id is above = ap (λ (b : Bool). cond b None (Some id_not_above)) (is.highest_is id ∙ above)
 
-pub opens_unrefused : (s : State) (shared : Shared) (k : Kept) (id : ℕ) → PartsRepresent shared k s → is_above k.highest id ≡ true → refusal s (opens id) ≡ None
+pub opens_unrefused : (s : State) (shared : Shared) (k : TheConnections) (id : ℕ) → PartsRepresent shared k s → is_above k.highest id ≡ true → refusal s (opens id) ≡ None
 opens_unrefused s shared k id is above = ap (λ (b : Bool). cond b None (Some id_not_above)) (is.highest_is id ∙ above)
 
-pub opens_well : (s : State) (id : ℕ) (shared : Shared) (old new : Kept) (d : conns.Connection) → PartsRepresent shared old s
+pub opens_well : (s : State) (id : ℕ) (shared : Shared) (old new : TheConnections) (d : conns.Connection) → PartsRepresent shared old s
     → is_above old.highest id ≡ true → ConnectionRepresents s.types d (opening s.connections) → Opens id d old new → Done s (opens id) shared new
 opens_well s id shared old new d held above holds opened =
     let c = opening s.connections in
@@ -254,7 +254,7 @@ opens_well s id shared old new d held above holds opened =
       refl,
     )
 
-pub same_in : (s : State) (shared : Shared) (old new : Kept) → PartsRepresent shared old s → IsSame old new → PartsRepresent shared new s
+pub same_in : (s : State) (shared : Shared) (old new : TheConnections) → PartsRepresent shared old s → IsSame old new → PartsRepresent shared new s
 same_in s shared old new held same = record {
   machine = held.machine;
   connections = λ q. subst (λ (o : Option conns.Connection). ConnectionRepresentsAt s.types o (fin.get s.connections q)) (sym (same.found_is q)) (held.connections q);
@@ -265,7 +265,7 @@ same_in s shared old new held same = record {
 
 -- ---- what becomes of one connection
 
-pub moves : (s : State) (m : History) (id : ℕ) (still : Bool) (shared shared' : Shared) (old new : Kept) (c c' : Connection) → PartsRepresent shared old s → SharedRepresents shared' s.types m → fin.get s.connections id ≡ Some c
+pub moves : (s : State) (m : History) (id : ℕ) (still : Bool) (shared shared' : Shared) (old new : TheConnections) (c c' : Connection) → PartsRepresent shared old s → SharedRepresents shared' s.types m → fin.get s.connections id ≡ Some c
     → BecomesAt s.types still c' id old new → is_open c.phase && still ≡ is_open c'.phase → PartsRepresent shared' new (with_connection (with_machine s m) id c')
 moves s m id still shared shared' old new c c' held serves got becomes stays = record {
   machine = serves;
@@ -297,7 +297,7 @@ still_open false true h = h refl
 still_open false false h = refl
 
 -- it stays as it is
-idles : (s : State) (id : ℕ) (shared shared' : Shared) (old new : Kept) (c c' : Connection) → PartsRepresent shared old s → SharedRepresents shared' s.types s.machine → fin.get s.connections id ≡ Some c → c' ≡ c
+idles : (s : State) (id : ℕ) (shared shared' : Shared) (old new : TheConnections) (c c' : Connection) → PartsRepresent shared old s → SharedRepresents shared' s.types s.machine → fin.get s.connections id ≡ Some c → c' ≡ c
     → BecomesAt s.types (is_open c'.phase) c' id old new → PartsRepresent shared' new s
 idles s id shared shared' old new c c' held serves got same becomes =
     subst (λ (all : Connections). PartsRepresent shared' new (with_connections s all)) (ap (fin.insert s.connections id) same ∙ put_same s.connections id c got)
@@ -310,7 +310,7 @@ steps_on : (s t : State) (id : ℕ) (bytes : List ℕ) (c : Connection) (st : Ph
 steps_on s t id bytes c st got represents came =
     subst (λ (o : Option Connection). ComesBy s id o bytes t) (sym got) (subst (λ (x : Phase). ComesOn s id c x bytes t) (sym represents) came)
 
-comes_done : (s : State) (id : ℕ) (bytes : List ℕ) (shared shared' : Shared) (old new : Kept) (c c' : Connection) (st : Phase) → PartsRepresent shared old s → fin.get s.connections id ≡ Some c → c.phase ≡ st
+comes_done : (s : State) (id : ℕ) (bytes : List ℕ) (shared shared' : Shared) (old new : TheConnections) (c c' : Connection) (st : Phase) → PartsRepresent shared old s → fin.get s.connections id ≡ Some c → c.phase ≡ st
     → Receives s.types s.machine s.last_tick c st bytes c' shared' → BecomesAt s.types (is_open c'.phase) c' id old new → Done s (comes id bytes) shared' new
 comes_done s id bytes shared shared' old new c c' (waiting prefix) held got represents (decision, asks, is, serves) becomes =
     let m = machine_after s.types s.machine decision in (
@@ -329,7 +329,7 @@ comes_done s id bytes shared shared' old new c c' (gone had_ended) held got repr
 
 -- ---- a peer that goes, and a pump
 
-goes_done : (s : State) (id : ℕ) (shared shared' : Shared) (old new : Kept) (c c' : Connection) → PartsRepresent shared old s → fin.get s.connections id ≡ Some c
+goes_done : (s : State) (id : ℕ) (shared shared' : Shared) (old new : TheConnections) (c c' : Connection) → PartsRepresent shared old s → fin.get s.connections id ≡ Some c
     → c' ≡ with_phase c (gone (has_ended c.phase)) → SharedRepresents shared' s.types s.machine → BecomesAt s.types (is_open c'.phase) c' id old new → Done s (goes id) shared' new
 goes_done s id shared shared' old new c c' held got is serves becomes = (
   with_connection s id c',
@@ -351,7 +351,7 @@ turn_opens turn c (watching w) represents now = ap is_open represents
 turn_opens turn c ended represents now = now
 turn_opens turn c (gone had_ended) represents now = now
 
-pumps_done : (s : State) (id max : ℕ) (shared shared' : Shared) (old new : Kept) (c c' : Connection) → PartsRepresent shared old s → fin.get s.connections id ≡ Some c → (max == 0) ≡ false
+pumps_done : (s : State) (id max : ℕ) (shared shared' : Shared) (old new : TheConnections) (c c' : Connection) → PartsRepresent shared old s → fin.get s.connections id ≡ Some c → (max == 0) ≡ false
     → c' ≡ with_turn (pumped s.machine max) c → SharedRepresents shared' s.types s.machine → BecomesAt s.types (is_open c'.phase) c' id old new → Done s (pumps id max) shared' new
 pumps_done s id max shared shared' old new c c' held got some is serves becomes =
     let turn = pumped s.machine max in (
@@ -390,7 +390,7 @@ gone_isnt none = cc
 abbrev pub IsNone : changes.ConnectionInput → Type 0
 IsNone what = what ≡ change.Lines 0
 
-changes_done : (s : State) (what : changes.ConnectionInput) (id : ℕ) (shared shared' : Shared) (old new : Kept) (c c' : Connection) → (IsNone what → ⊥) → PartsRepresent shared old s → fin.get s.connections id ≡ Some c
+changes_done : (s : State) (what : changes.ConnectionInput) (id : ℕ) (shared shared' : Shared) (old new : TheConnections) (c c' : Connection) → (IsNone what → ⊥) → PartsRepresent shared old s → fin.get s.connections id ≡ Some c
     → Makes s.types s.machine s.last_tick what c c' shared' → BecomesAt s.types (is_open c'.phase) c' id old new → Done s (event_on id what) shared' new
 changes_done s (change.Bytes bytes) id shared shared' old new c c' some held got makes becomes = comes_done s id bytes.now shared shared' old new c c' c.phase held got refl makes becomes
 changes_done s (change.Lines max) id shared shared' old new c c' some held got (is, serves) becomes =
@@ -430,10 +430,10 @@ watching_open ended is = absurd (false_true is)
 watching_open (gone had_ended) is = absurd (false_true is)
 
 -- the code holds a state to which the event leads that found no memory
-abbrev pub OutOfMemory : State → Event → Shared → Kept → Type 0
+abbrev pub OutOfMemory : State → Event → Shared → TheConnections → Type 0
 OutOfMemory s e shared k = (t : State) × RunsOutOfMemory s e (λ q. false) t × PartsRepresent shared k t × (t.last_tick ≡ s.last_tick)
 
-dies : (s : State) (id : ℕ) (shared shared' : Shared) (old new : Kept) (c : Connection) → PartsRepresent shared old s → SharedRepresents shared' s.types s.machine → fin.get s.connections id ≡ Some c → is_open c.phase ≡ true
+dies : (s : State) (id : ℕ) (shared shared' : Shared) (old new : TheConnections) (c : Connection) → PartsRepresent shared old s → SharedRepresents shared' s.types s.machine → fin.get s.connections id ≡ Some c → is_open c.phase ≡ true
     → BecomesAt s.types false (with_phase c ended) id old new
     → (t : State) × (t ≡ by_connection s (fin.get s.connections id) (λ x. with_connection s id (killed x))) × PartsRepresent shared' new t × (t.last_tick ≡ s.last_tick)
 dies s id shared shared' old new c held serves got was_open becomes =
@@ -444,7 +444,7 @@ dies s id shared shared' old new c held serves got was_open becomes =
       refl,
     )
 
-changes_run_out : (s : State) (what : changes.ConnectionInput) (id : ℕ) (shared shared' : Shared) (old new : Kept) (c : Connection) → (IsNone what → ⊥) → PartsRepresent shared old s → fin.get s.connections id ≡ Some c
+changes_run_out : (s : State) (what : changes.ConnectionInput) (id : ℕ) (shared shared' : Shared) (old new : TheConnections) (c : Connection) → (IsNone what → ⊥) → PartsRepresent shared old s → fin.get s.connections id ≡ Some c
     → takes_memory_on what c.phase ≡ true → SharedRepresents shared' s.types s.machine → BecomesAt s.types false (with_phase c ended) id old new → OutOfMemory s (event_on id what) shared' new
 changes_run_out s (change.Bytes bytes) id shared shared' old new c some held got takes serves becomes =
     let died = dies s id shared shared' old new c held serves got (waiting_open c.phase takes) becomes in (
@@ -473,16 +473,16 @@ changes_run_out s change.Gone id shared shared' old new c some held got takes se
 -- ---- the call
 
 -- the connection of an id, and that of the state
-represents_at : (s : State) (shared : Shared) (k : Kept) (id : ℕ) (d : conns.Connection) (c : Connection) → PartsRepresent shared k s → found k id ≡ Some d → fin.get s.connections id ≡ Some c → ConnectionRepresents s.types d c → IsAt id d k
+represents_at : (s : State) (shared : Shared) (k : TheConnections) (id : ℕ) (d : conns.Connection) (c : Connection) → PartsRepresent shared k s → found k id ≡ Some d → fin.get s.connections id ≡ Some c → ConnectionRepresents s.types d c → IsAt id d k
 represents_at s shared k id d c held at got holds = (at, held.open_is id ∙ ap open_in got ∙ sym (same_open s.types d c holds), held.apart)
 
 none_refused : {A : Type 0} {x : A} → Some x ≡ None → ⊥
 none_refused e = cc
 
-abbrev pub with_parts : Hub → Shared → Kept → Hub
+abbrev pub with_parts : Hub → Shared → TheConnections → Hub
 with_parts hub shared k = record { alloc = hub.alloc; shared = shared; connections = k; last_tick = hub.last_tick }
 
-pub changes_handled : (hub : Hub) (what : changes.ConnectionInput) (id : ℕ) (shared : Shared) (new : Kept) (o : Outcome) → (IsNone what → ⊥)
+pub changes_handled : (hub : Hub) (what : changes.ConnectionInput) (id : ℕ) (shared : Shared) (new : TheConnections) (o : Outcome) → (IsNone what → ⊥)
     → ((types : List ServedShape) (m : History) (d : conns.Connection) (c : Connection) → SharedRepresents hub.shared types m → IsAt id d hub.connections → ConnectionRepresents types d c
     → Changes types m hub.last_tick what id c hub.connections new shared o)
     → (found hub.connections id ≡ None → (o ≡ outcome.refused unknown_id) × (new ≡ hub.connections) × (shared ≡ hub.shared)) → (is_some (found hub.connections id) ≡ true → refusal_in o ≡ None)
@@ -514,7 +514,7 @@ changes_handled hub what id shared new o some known unknown taken = go (found hu
 
 -- ---- compactions
 
-over_shared : (s : State) (m : History) (shared shared' : Shared) (k : Kept) → PartsRepresent shared k s → SharedRepresents shared' s.types m → PartsRepresent shared' k (with_machine s m)
+over_shared : (s : State) (m : History) (shared shared' : Shared) (k : TheConnections) → PartsRepresent shared k s → SharedRepresents shared' s.types m → PartsRepresent shared' k (with_machine s m)
 over_shared s m shared shared' k held represents = record { machine = represents; connections = held.connections; open_is = held.open_is; highest_is = held.highest_is; apart = held.apart }
 
 -- from the compacted number to the current revision
@@ -627,7 +627,7 @@ nothing_taken c n none = out_taken c n ∙ ap (drop n) none ∙ drop_all n [] (o
 pub takes_over : (types : List ServedShape) (had_ended : Bool) (c : Connection) (n : ℕ) → ConnectionRepresents types (conn.Closed had_ended) c → ConnectionRepresents types (conn.Closed had_ended) (with_taken c n)
 takes_over types had_ended c n (closed, had, none) = (closed, had, nothing_taken c n none)
 
-pub takes_well : (s : State) (id n : ℕ) (shared : Shared) (old new : Kept) → PartsRepresent shared old s
+pub takes_well : (s : State) (id n : ℕ) (shared : Shared) (old new : TheConnections) → PartsRepresent shared old s
     → ((d : conns.Connection) (c : Connection) → IsAt id d old → ConnectionRepresents s.types d c → BecomesAt s.types true (with_taken c n) id old new)
     → (found old id ≡ None → new ≡ old) → PartsRepresent shared new (with_bytes_taken s id n) × ((with_bytes_taken s id n).last_tick ≡ s.last_tick)
 takes_well s id n shared old new held known unknown = go (found old id) refl
@@ -642,7 +642,7 @@ takes_well s id n shared old new held known unknown = go (found old id) refl
     go : (o : Option conns.Connection) → found old id ≡ o → Taken (with_bytes_taken s id n)
     go None at =
         subst Taken (sym (ap (λ (p : Option Connection). by_connection s p (λ c. with_connection s id (with_taken c n))) (none_held s.types (found old id) (fin.get s.connections id) (held.connections id) at)))
-        (subst (λ (k : Kept). PartsRepresent shared k s) (sym (unknown at)) held, refl)
+        (subst (λ (k : TheConnections). PartsRepresent shared k s) (sym (unknown at)) held, refl)
     go (Some d) at =
         let c = some_held s.types (found old id) (fin.get s.connections id) d (held.connections id) at in
         subst Taken (sym (ap (λ (p : Option Connection). by_connection s p (λ c. with_connection s id (with_taken c n))) c.1))

@@ -82,7 +82,7 @@ writes_not ms (watching w) is = absurd cc
 writes_not ms ended is = refl
 writes_not ms (gone had_ended) is = refl
 
-pub dead_idle : (types : List ServedShape) (ms : ℕ) (some_ran_out : Bool) (c : Connection) → is_watching c.phase ≡ false → killed_or_ticked types ms some_ran_out c ≡ c
+pub dead_idle : (types : List ServedShape) (ms : ℕ) (ran_out : Bool) (c : Connection) → is_watching c.phase ≡ false → killed_or_ticked types ms ran_out c ≡ c
 dead_idle types ms true c is =
     ap (λ (b : Bool). cond b (killed c) (with_turn (ticked types ms) c)) (writes_not ms c.phase is) ∙ turn_idle (ticked types ms) c c.phase is
 dead_idle types ms false c is = turn_idle (ticked types ms) c c.phase is

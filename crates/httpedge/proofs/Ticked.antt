@@ -15,7 +15,7 @@ use Rattle.std.proofs.lemmas.Map.Views.{any-filter_same}
 use Rattle.api_types.specs.TypesFile.{ServedShape}
 use Rattle.httpedge.specs.declared.shared.Shared.{Shared}
 use Rattle.httpedge.specs.declared.connection.Connection as conns
-use Rattle.httpedge.specs.declared.connections.Connections.{Connections as Kept}
+use Rattle.httpedge.specs.declared.connections.Connections.{Connections as TheConnections}
 use Rattle.httpedge.specs.Connections.{Connection, Connections, Phase, waiting, watching, ended, gone, each, is_new, is_open, is_watching, open_on}
 use Rattle.requests.specs.Decision.{undecided}
 use Rattle.httpedge.specs.ConnectionViews.{ConnectionRepresents, ConnectionRepresentsAt, IsApart, Lists, PutAt, PartsRepresent, found, found_in, held_or, is_above, is_open_in, closed_by}
@@ -94,12 +94,12 @@ put_keys held held' id e was put q = ap is_some (put q) ∙ go (eq_by_cmp nat_cm
     go true same = sym (ap (λ (k : ℕ). is_some (get nat_cmp held k)) (sym (same refl)) ∙ was)
     go false same = refl
 
-pub some_ticks : (types : List ServedShape) (ms id : ℕ) (before : Connections) (old new : Found) (d e : conns.Connection) (some_ran_out : Bool) → ConnectionsRepresent types old before → old id ≡ Some d
-    → PutAt id e old new → ((c : Connection) → ConnectionRepresents types d c → ConnectionRepresents types e (killed_or_ticked types ms some_ran_out c))
-    → ((c : Connection) → ConnectionRepresents types d c → some_ran_out ≡ true → writes_at ms c.phase ≡ true) → TicksAt types ms id before new some_ran_out
-some_ticks types ms id before old new d e some_ran_out held at put turns due =
+pub some_ticks : (types : List ServedShape) (ms id : ℕ) (before : Connections) (old new : Found) (d e : conns.Connection) (ran_out : Bool) → ConnectionsRepresent types old before → old id ≡ Some d
+    → PutAt id e old new → ((c : Connection) → ConnectionRepresents types d c → ConnectionRepresents types e (killed_or_ticked types ms ran_out c))
+    → ((c : Connection) → ConnectionRepresents types d c → ran_out ≡ true → writes_at ms c.phase ≡ true) → TicksAt types ms id before new ran_out
+some_ticks types ms id before old new d e ran_out held at put turns due =
     let found = some_held types (old id) (fin.get before id) d (held id) at in
-    let f = killed_or_ticked types ms some_ran_out in (
+    let f = killed_or_ticked types ms ran_out in (
       subst (ConnectionsRepresent types new) (sym (ap (λ (o : Option Connection). put_where o f before id) found.1))
           (held_put types old new before id e (f found.0) held put (turns found.0 found.2)),
       λ is. ap (λ (o : Option Connection). unwrap_or (option_map (λ c. writes_at ms c.phase) o) false) found.1 ∙ due found.0 found.2 is,
@@ -278,7 +278,7 @@ keeps_true : (b c : Bool) → (b ≡ true → c ≡ true) → b && c ≡ b
 keeps_true true c then = then refl
 keeps_true false c then = refl
 
-pub ticks_in : (s : State) (ms : ℕ) (shared : Shared) (old new : Kept) (some_ran_out : Bool) → PartsRepresent shared old s → TicksAll s.types ms s.connections (found new) some_ran_out
+pub ticks_in : (s : State) (ms : ℕ) (shared : Shared) (old new : TheConnections) (some_ran_out : Bool) → PartsRepresent shared old s → TicksAll s.types ms s.connections (found new) some_ran_out
     → new.open_ids.keys ≡ filter (open_held new.held) old.open_ids.keys → new.highest ≡ old.highest → IsApart new → TicksIn shared ms s new some_ran_out
 ticks_in s ms shared old new some_ran_out held (which, holds, none, some) kept same apart = (
   which,
@@ -315,10 +315,10 @@ pub ticks_refused : (s : State) (ms last_tick : ℕ) → last_tick ≡ s.last_ti
 ticks_refused s ms last_tick same back = ap (λ (b : Bool). cond b (Some tick_back) None) (ap (nat_lt ms) (sym same) ∙ back)
 
 -- the hub is in this state
-abbrev pub IsInState : Shared → Kept → ℕ → State → Type 0
+abbrev pub IsInState : Shared → TheConnections → ℕ → State → Type 0
 IsInState shared k last_tick s = PartsRepresent shared k s × (last_tick ≡ s.last_tick)
 
-pub ticks_well : (s : State) (ms last_tick : ℕ) (shared : Shared) (new : Kept) (some_ran_out : Bool) → last_tick ≡ s.last_tick → nat_lt ms last_tick ≡ false → TicksIn shared ms s new some_ran_out → some_ran_out ≡ false
+pub ticks_well : (s : State) (ms last_tick : ℕ) (shared : Shared) (new : TheConnections) (some_ran_out : Bool) → last_tick ≡ s.last_tick → nat_lt ms last_tick ≡ false → TicksIn shared ms s new some_ran_out → some_ran_out ≡ false
     → (refusal s (ticks ms) ≡ None) × (t : State) × Steps s (ticks ms) t × IsInState shared new ms t
 ticks_well s ms last_tick shared new some_ran_out same forward (which, held, none, some) fine =
     let g = λ (q : ℕ) (c : Connection). with_turn (ticked s.types ms) c in
@@ -347,7 +347,7 @@ any_entry ms which q found (e ∷ es) due = go (eq_by_cmp nat_cmp q e.0) (tied_s
         ap₂ (λ (a b : Bool). (a && b) || list_any (λ x. which x.0 && writes_at ms x.1.phase) es) (sym (ap which (is refl)) ∙ found) here
     go false is there rest = ap (λ (b : Bool). (which e.0 && writes_at ms e.1.phase) || b) (rest there) ∙ later (which e.0 && writes_at ms e.1.phase)
 
-pub ticks_run_out : (s : State) (ms last_tick : ℕ) (shared : Shared) (new : Kept) (some_ran_out : Bool) → last_tick ≡ s.last_tick → nat_lt ms last_tick ≡ false → TicksIn shared ms s new some_ran_out → some_ran_out ≡ true
+pub ticks_run_out : (s : State) (ms last_tick : ℕ) (shared : Shared) (new : TheConnections) (some_ran_out : Bool) → last_tick ≡ s.last_tick → nat_lt ms last_tick ≡ false → TicksIn shared ms s new some_ran_out → some_ran_out ≡ true
     → (which : ℕ → Bool) × (t : State) × RunsOutOfMemory s (ticks ms) which t × IsInState shared new ms t
 ticks_run_out s ms last_tick shared new some_ran_out same forward (which, held, none, some) out_of_memory =
     let found = some out_of_memory in (

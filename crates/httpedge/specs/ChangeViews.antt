@@ -6,7 +6,7 @@ use Rattle.httpedge.specs.declared.shared.Shared.{Shared}
 use Rattle.httpedge.specs.SharedViews.{SharedRepresents}
 use Rattle.requests.specs.Asks.{CallDecision, Asks}
 use Rattle.httpedge.specs.declared.connection.Connection as conns
-use Rattle.httpedge.specs.declared.connections.Connections.{Connections as Kept}
+use Rattle.httpedge.specs.declared.connections.Connections.{Connections as TheConnections}
 use Rattle.httpedge.specs.declared.event.ConnectionInput as changes
 use Rattle.httpedge.specs.declared.event.ConnectionInput.TheVariants as change
 use Rattle.httpedge.specs.Connections.{Connection, Phase, waiting, ended, gone, has_ended, is_open, is_waiting, is_watching, with_phase}
@@ -44,7 +44,7 @@ takes_memory_on (change.Lines max) st = is_watching st
 takes_memory_on change.Gone st = false
 
 -- the same among all connections, by how the call ended
-abbrev pub Changes : List ServedShape → History → ℕ → changes.ConnectionInput → ℕ → Connection → Kept → Kept → Shared → Outcome → Type 0
+abbrev pub Changes : List ServedShape → History → ℕ → changes.ConnectionInput → ℕ → Connection → TheConnections → TheConnections → Shared → Outcome → Type 0
 Changes types m last_tick what id c old new shared done =
     (c' : Connection) × Makes types m last_tick what c c' shared × BecomesAt types (is_open c'.phase) c' id old new
 Changes types m last_tick what id c old new shared (refused why) = ⊥

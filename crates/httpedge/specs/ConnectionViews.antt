@@ -10,7 +10,7 @@ use Rattle.history.specs.History.{History}
 use Rattle.verbs.specs.Views.{ApiRepresents}
 use Rattle.httpedge.specs.declared.connection.Connection as conns
 use Rattle.httpedge.specs.declared.connection.Connection.TheVariants as conn
-use Rattle.httpedge.specs.declared.connections.Connections.{Connections as Kept}
+use Rattle.httpedge.specs.declared.connections.Connections.{Connections as TheConnections}
 use Rattle.httpedge.specs.declared.out.Out as outs
 use Rattle.httpedge.specs.declared.watching.Watch as watches
 use Rattle.requests.specs.Asks.{CallDecision, Asks}
@@ -133,19 +133,19 @@ held_or (Some d) other = Some d
 abbrev pub found_in : BTreeMap ℕ conns.Connection → (ℕ → Bool) → (ℕ → Bool) → ℕ → Option conns.Connection
 found_in held had_ended cut id = held_or (get nat_cmp held id) (closed_by (had_ended id) (cut id))
 
-abbrev pub found : Kept → ℕ → Option conns.Connection
+abbrev pub found : TheConnections → ℕ → Option conns.Connection
 found k = found_in k.held (is_in k.ended.ranges) (is_in k.cut.ranges)
 
 -- how many are held, and how many ranges the ids of all others are
-abbrev pub kept_in : Kept → ℕ × ℕ
+abbrev pub kept_in : TheConnections → ℕ × ℕ
 kept_in k = (btree_map_len k.held, btree_map_len k.ended.ranges + btree_map_len k.cut.ranges)
 
 -- none that is held is among those that are over and had ended
-abbrev pub IsApart : Kept → Type 0
+abbrev pub IsApart : TheConnections → Type 0
 IsApart k = (q : ℕ) → is_some (get nat_cmp k.held q) ≡ true → is_in k.ended.ranges q ≡ false
 
 -- these connections are those of the state, with the ids of those that are open and the highest id, and what they share stands for its machine
-pub record PartsRepresent (shared : Shared) (k : Kept) (s : State) : Type 0 where
+pub record PartsRepresent (shared : Shared) (k : TheConnections) (s : State) : Type 0 where
   pub machine : SharedRepresents shared s.types s.machine
   pub connections : (id : ℕ) → ConnectionRepresentsAt s.types (found k id) (fin.get s.connections id)
   pub open_is : (id : ℕ) → contains nat_cmp k.open_ids id ≡ open_on s.connections id
@@ -159,11 +159,11 @@ abbrev pub PutAt : ℕ → conns.Connection → (ℕ → Option conns.Connection
 PutAt id d old new = (q : ℕ) → new q ≡ cond (eq_by_cmp nat_cmp id q) (Some d) (old q)
 
 -- an id is among those that are open if it was and still is
-abbrev pub OpenIdsAfter : ℕ → Bool → Kept → Kept → Type 0
+abbrev pub OpenIdsAfter : ℕ → Bool → TheConnections → TheConnections → Type 0
 OpenIdsAfter id still old new = (q : ℕ) → contains nat_cmp new.open_ids q ≡ cond (eq_by_cmp nat_cmp id q) (contains nat_cmp old.open_ids q && still) (contains nat_cmp old.open_ids q)
 
 -- what becomes of a connection by its id, and whether it is open if it was
-pub record BecomesAt (types : List ServedShape) (still : Bool) (c : Connection) (id : ℕ) (old new : Kept) : Type 0 where
+pub record BecomesAt (types : List ServedShape) (still : Bool) (c : Connection) (id : ℕ) (old new : TheConnections) : Type 0 where
   pub one : conns.Connection
   pub holds : ConnectionRepresents types one c
   pub put : PutAt id one (found old) (found new)
@@ -172,7 +172,7 @@ pub record BecomesAt (types : List ServedShape) (still : Bool) (c : Connection) 
   pub apart : IsApart new
 
 -- of a connection that is over only the id may be kept; that says as much
-pub record Forgets (id : ℕ) (d : conns.Connection) (old new : Kept) : Type 0 where
+pub record Forgets (id : ℕ) (d : conns.Connection) (old new : TheConnections) : Type 0 where
   pub one : conns.Connection
   pub as_much : (types : List ServedShape) (c : Connection) → ConnectionRepresents types d c → ConnectionRepresents types one c
   pub put : PutAt id one (found old) (found new)
@@ -181,21 +181,21 @@ pub record Forgets (id : ℕ) (d : conns.Connection) (old new : Kept) : Type 0 w
   pub apart : IsApart new
 
 -- this is the connection of an id
-abbrev pub IsAt : ℕ → conns.Connection → Kept → Type 0
+abbrev pub IsAt : ℕ → conns.Connection → TheConnections → Type 0
 IsAt id d k = (found k id ≡ Some d) × (contains nat_cmp k.open_ids id ≡ is_open_in d) × IsApart k
 
 -- there is no connection of this id
-abbrev pub IsFresh : ℕ → Kept → Type 0
+abbrev pub IsFresh : ℕ → TheConnections → Type 0
 IsFresh id k = (found k id ≡ None) × (contains nat_cmp k.open_ids id ≡ false) × IsApart k
 
 -- one is opened
-pub record Opens (id : ℕ) (d : conns.Connection) (old new : Kept) : Type 0 where
+pub record Opens (id : ℕ) (d : conns.Connection) (old new : TheConnections) : Type 0 where
   pub put : PutAt id d (found old) (found new)
   pub open_is : (q : ℕ) → contains nat_cmp new.open_ids q ≡ cond (eq_by_cmp nat_cmp id q) (is_open_in d) (contains nat_cmp old.open_ids q)
   pub highest : new.highest ≡ Some id
   pub apart : IsApart new
 
-pub record IsSame (old new : Kept) : Type 0 where
+pub record IsSame (old new : TheConnections) : Type 0 where
   pub found_is : (q : ℕ) → found new q ≡ found old q
   pub open_is : (q : ℕ) → contains nat_cmp new.open_ids q ≡ contains nat_cmp old.open_ids q
   pub highest : new.highest ≡ old.highest

@@ -44,7 +44,7 @@ pub data Action : Type 0 where
 
 abbrev pub Follows : State → Action → State → Type 0
 Follows s (happens e) t = Steps s e t
-Follows s (runs_out_of_memory e some_ran_out) t = RunsOutOfMemory s e some_ran_out t
+Follows s (runs_out_of_memory e ran_out_on) t = RunsOutOfMemory s e ran_out_on t
 Follows s (takes id n) t = t ≡ with_bytes_taken s id n
 
 abbrev pub Runs : State → List Action → State → Type 0
@@ -76,12 +76,12 @@ bytes_of _ = []
 -- the same of what happens
 abbrev pub happens_on : Action → Subject
 happens_on (happens e) = subject e
-happens_on (runs_out_of_memory e some_ran_out) = subject e
+happens_on (runs_out_of_memory e ran_out_on) = subject e
 happens_on (takes id n) = connection id
 
 abbrev pub came : Action → List ℕ
 came (happens e) = bytes_of e
-came (runs_out_of_memory e some_ran_out) = bytes_of e
+came (runs_out_of_memory e ran_out_on) = bytes_of e
 came (takes id n) = []
 
 -- it is not of this connection
@@ -98,7 +98,7 @@ HappensElsewhere h other = IsElsewhere (happens_on h) other
 -- no bytes are taken of this connection, and its peer doesn't go
 abbrev pub KeepsOutput : Action → ℕ → Type 0
 KeepsOutput (happens e) q = e ≢ goes q
-KeepsOutput (runs_out_of_memory e some_ran_out) q = ⊤
+KeepsOutput (runs_out_of_memory e ran_out_on) q = ⊤
 KeepsOutput (takes id n) q = q ≢ id
 
 -- a peer goes

@@ -16,7 +16,7 @@ pub record IsTurnFrom (m : History) (last : CachedTurn) : Type 0 where
       ≡ record { lines = lines; ended = last.has_ended; next = moved last.before last.resume_point.position last.resume_point.sent last.before.left }
   pub bytes : last.bytes.items ≡ chunks lines last.has_ended
 
--- for private clauses: a watch that stands so, and stood so where it had sent up to there, has sent up to here
+-- a turn's end points, for private clauses: the cursor after it (`next`) and before it, the point that it was sent from and the one that it was sent to
 pub record TurnSpan (there : Option ResumePoint) (next before : Cursor) (here : ResumePoint) : Type 0 where
   pub start : ResumePoint
   pub there_is : there ≡ Some start

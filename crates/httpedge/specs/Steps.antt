@@ -191,28 +191,28 @@ writes_at ms _ = false
 
 -- a watch that found no room for what it writes is dead; every other connection has its turn: one to which nothing is due needs no room
 abbrev pub killed_or_ticked : List ServedShape → ℕ → Bool → Connection → Connection
-killed_or_ticked types ms some_ran_out c = if some_ran_out && writes_at ms c.phase then killed c else with_turn (ticked types ms) c
+killed_or_ticked types ms ran_out c = if ran_out && writes_at ms c.phase then killed c else with_turn (ticked types ms) c
 
 -- the state after an event that takes memory (`takes_memory`) and found none; at a tick it is these connections that found none
 abbrev pub out_of_memory : State → Event → (ℕ → Bool) → State
-out_of_memory s (opens id) some_ran_out = s
-out_of_memory s (comes id bytes) some_ran_out = on_connection s id (λ c. with_connection s id (killed c))
-out_of_memory s (goes id) some_ran_out = s
-out_of_memory s (pumps id max) some_ran_out = on_connection s id (λ c. with_connection s id (killed c))
-out_of_memory s (ticks ms) some_ran_out = with_tick s ms (each (λ id c. killed_or_ticked s.types ms (some_ran_out id) c) s.connections)
-out_of_memory s (compacts c) some_ran_out = s
-out_of_memory s (retypes file) some_ran_out = s
+out_of_memory s (opens id) ran_out_on = s
+out_of_memory s (comes id bytes) ran_out_on = on_connection s id (λ c. with_connection s id (killed c))
+out_of_memory s (goes id) ran_out_on = s
+out_of_memory s (pumps id max) ran_out_on = on_connection s id (λ c. with_connection s id (killed c))
+out_of_memory s (ticks ms) ran_out_on = with_tick s ms (each (λ id c. killed_or_ticked s.types ms (ran_out_on id) c) s.connections)
+out_of_memory s (compacts c) ran_out_on = s
+out_of_memory s (retypes file) ran_out_on = s
 
 -- which events take memory: bytes only where the connection waits for them, a pump only where it watches, a tick only where a watch found none
 -- whose turn writes something
 abbrev pub takes_memory : State → Event → (ℕ → Bool) → Bool
-takes_memory s (opens id) some_ran_out = true
-takes_memory s (comes id bytes) some_ran_out = waiting_on s.connections id
-takes_memory s (goes id) some_ran_out = false
-takes_memory s (pumps id max) some_ran_out = watching_on s.connections id
-takes_memory s (ticks ms) some_ran_out = list_any (λ e. some_ran_out e.0 && writes_at ms e.1.phase) (fin.entries s.connections)
-takes_memory s (compacts c) some_ran_out = true
-takes_memory s (retypes file) some_ran_out = true
+takes_memory s (opens id) ran_out_on = true
+takes_memory s (comes id bytes) ran_out_on = waiting_on s.connections id
+takes_memory s (goes id) ran_out_on = false
+takes_memory s (pumps id max) ran_out_on = watching_on s.connections id
+takes_memory s (ticks ms) ran_out_on = list_any (λ e. ran_out_on e.0 && writes_at ms e.1.phase) (fin.entries s.connections)
+takes_memory s (compacts c) ran_out_on = true
+takes_memory s (retypes file) ran_out_on = true
 
 -- why an event is refused that takes no memory before: types are read first, whatever then becomes of them
 abbrev pub early_refusal : State → Event → Option Refusal
@@ -221,7 +221,7 @@ early_refusal s e = refusal s e
 
 -- an event that is not refused before finds no memory, and leads to this state
 abbrev pub RunsOutOfMemory : State → Event → (ℕ → Bool) → State → Type 0
-RunsOutOfMemory s e some_ran_out t = (early_refusal s e ≡ None) × (takes_memory s e some_ran_out ≡ true) × (t ≡ out_of_memory s e some_ran_out)
+RunsOutOfMemory s e ran_out_on t = (early_refusal s e ≡ None) × (takes_memory s e ran_out_on ≡ true) × (t ≡ out_of_memory s e ran_out_on)
 
 -- ---- bytes that are taken
 

@@ -11,7 +11,7 @@ MovesBy R old new = (s : State) → HubRepresents old s → (t : State) × R s t
 
 abbrev pub event_in : Action → Option Event
 event_in (happens e) = Some e
-event_in (runs_out_of_memory e some_ran_out) = Some e
+event_in (runs_out_of_memory e ran_out_on) = Some e
 event_in (takes id n) = None
 
 -- the event, also where it finds no memory

@@ -5,7 +5,7 @@ use Rattle.std.specs.FinMap as fin
 use Rattle.api_types.specs.TypesFile.{ServedShape}
 use Rattle.httpedge.specs.declared.shared.Shared.{Shared}
 use Rattle.httpedge.specs.declared.connection.Connection as conns
-use Rattle.httpedge.specs.declared.connections.Connections.{Connections as Kept}
+use Rattle.httpedge.specs.declared.connections.Connections.{Connections as TheConnections}
 use Rattle.httpedge.specs.Connections.{Connection, Connections, each}
 use Rattle.httpedge.specs.ConnectionViews.{ConnectionRepresentsAt, PartsRepresent}
 use Rattle.httpedge.specs.Steps.{State, killed_or_ticked, with_tick, writes_at}
@@ -24,11 +24,11 @@ put_where (Some c) f all id = fin.insert all id (f c)
 
 -- the connection of an id had its turn, or found no memory
 abbrev pub ticked_at : List ServedShape → ℕ → Bool → Connections → ℕ → Connections
-ticked_at types ms some_ran_out all id = put_where (fin.get all id) (killed_or_ticked types ms some_ran_out) all id
+ticked_at types ms ran_out all id = put_where (fin.get all id) (killed_or_ticked types ms ran_out) all id
 
 -- it found none only where its turn writes something
 abbrev pub TicksAt : List ServedShape → ℕ → ℕ → Connections → (ℕ → Option conns.Connection) → Bool → Type 0
-TicksAt types ms id before held some_ran_out = ConnectionsRepresent types held (ticked_at types ms some_ran_out before id) × (some_ran_out ≡ true → due_on ms before id ≡ true)
+TicksAt types ms id before held ran_out = ConnectionsRepresent types held (ticked_at types ms ran_out before id) × (ran_out ≡ true → due_on ms before id ≡ true)
 
 -- each had its turn, or found no memory
 abbrev pub ticked_all : List ServedShape → ℕ → (ℕ → Bool) → Connections → Connections
@@ -43,6 +43,6 @@ TicksAll types ms before held some_ran_out = (which : ℕ → Bool) × Connectio
     × (some_ran_out ≡ false → (q : ℕ) → which q ≡ false) × (some_ran_out ≡ true → SomeRanOutOfMemory ms which before)
 
 -- the same of the connections of a hub
-abbrev pub TicksIn : Shared → ℕ → State → Kept → Bool → Type 0
+abbrev pub TicksIn : Shared → ℕ → State → TheConnections → Bool → Type 0
 TicksIn shared ms s k some_ran_out = (which : ℕ → Bool) × PartsRepresent shared k (with_tick s ms (ticked_all s.types ms which s.connections))
     × (some_ran_out ≡ false → (q : ℕ) → which q ≡ false) × (some_ran_out ≡ true → SomeRanOutOfMemory ms which s.connections)

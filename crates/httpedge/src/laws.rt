@@ -60,7 +60,7 @@ pub fn gone_stays()
 /// A tick changes watches alone, also where some of them are out of memory.
 pub fn ticks_are_for_watches()
     ensures with_memory { (s t : State) (ms id : ℕ) → watching_on s.connections id ≡ false → Steps s (ticks ms) t → fin.get t.connections id ≡ fin.get s.connections id }
-    ensures without_memory { (s t : State) (ms id : ℕ) (some_ran_out : ℕ → Bool) → watching_on s.connections id ≡ false → RunsOutOfMemory s (ticks ms) some_ran_out t → fin.get t.connections id ≡ fin.get s.connections id }
+    ensures without_memory { (s t : State) (ms id : ℕ) (ran_out_on : ℕ → Bool) → watching_on s.connections id ≡ false → RunsOutOfMemory s (ticks ms) ran_out_on t → fin.get t.connections id ≡ fin.get s.connections id }
 {}
 
 /// While nothing is taken and no peer goes, what is out on a connection is all that was written on it; the same of one

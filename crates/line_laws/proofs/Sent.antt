@@ -8,7 +8,7 @@ use Rattle.history.specs.Seen.{Selection, reached, seen_changes, selected, last_
 use Rattle.history.proofs.Following.{prefix_seen, seen_changes-push}
 use Rattle.history.proofs.Revisions.{rising-push, state_at-push}
 use Rattle.watchline.specs.Lines.{added, bookmark_line, line_of}
-use Rattle.watchline.specs.Watches.{Cursor, BookmarkTurn, Turn, changes_left, changes_sent, coming, entries_left, from_history, is_bookmark_due, initial_left_after, initial_left_after_count, moved, no_initial_left, objects_left, position_by, pumped, sending, wanted}
+use Rattle.watchline.specs.Watches.{Cursor, BookmarkTurn, Turn, changes_left, changes_sent, coming, entries_left, from_history, is_bookmark_due, initial_left_by_next, initial_left_after_count, moved, no_initial_left, objects_left, position_by, pumped, sending, wanted}
 use Rattle.watchline.proofs.Onward.{leads_on, seen_split, stays_low, sends, sent_low}
 use Rattle.line_laws.specs.Following.{Event, Followed, IsAllowed, after, compaction, mark, opened_at, turn, write}
 
@@ -31,7 +31,7 @@ pub record SendsAll (objects : Entries) (start : Cursor) (f : Followed) : Type 0
 
 none_stays : (room : ℕ) → initial_left_after_count room [] no_initial_left ≡ no_initial_left
 none_stays zero = refl
-none_stays (suc n) = ap (λ b. initial_left_after (cond b (last_key (take (suc n) [])) None)) (le-ltb (suc n) 0 zero-le)
+none_stays (suc n) = ap (λ b. initial_left_by_next (cond b (last_key (take (suc n) [])) None)) (le-ltb (suc n) 0 zero-le)
 
 pub left_stays : (h : History) (room : ℕ) (w : Cursor) → w.left ≡ no_initial_left → (sending (from_history h) room w).next.left ≡ no_initial_left
 left_stays h room w none =

@@ -5,7 +5,7 @@ use Rattle.decoder.specs.Wanted.{Wanted}
 use Rattle.indexer.specs.Objects.{Stored}
 use Rattle.liveness_laws.proofs.Exchange.{asking}
 use Rattle.reflector.specs.Client.{Cache, Client, Notice, SyncPhase, first, streaming, next}
-use Rattle.reflector.specs.Items.{page_or_unfit}
+use Rattle.reflector.specs.Items.{page_or_unexpected}
 use Rattle.reflector.specs.Run.{relisting, ascends_within_limit, keep_paged, receives, receives_all, with_list, with_next, with_page}
 use Rattle.wireclient.specs.Reply.{end, head, whole}
 
@@ -25,12 +25,12 @@ module _ (wanted : Wanted) (cache : Option Cache) (notices : List Notice) where
       → receives wanted (asking cache sync true notices) (whole body) ≡ keep_paged (asking cache sync true notices) p.revision (paged ++ p.objects) p.token
   body_received first r paged body p from is same fits =
       let c : Client = asking cache first true notices in
-      ap (λ read. with_list c (with_page c []) (page_or_unfit read)) is
+      ap (λ read. with_list c (with_page c []) (page_or_unexpected read)) is
       ∙ ap (λ l. with_page c l p) (sym from)
       ∙ ap (λ b. cond b (keep_paged c p.revision (paged ++ p.objects) p.token) (relisting c)) fits
   body_received (next q token others) r paged body p from is same fits =
       let c : Client = asking cache (next q token others) true notices in
-      ap (λ read. with_list c (with_next c q others) (page_or_unfit read)) is
+      ap (λ read. with_list c (with_next c q others) (page_or_unexpected read)) is
       ∙ ap (λ b. cond b (with_page c others p) (relisting c)) (eq-eqb _ _ (same ∙ sym from.0))
       ∙ ap (λ l. with_page c l p) from.1
       ∙ ap (λ b. cond b (keep_paged c p.revision (paged ++ p.objects) p.token) (relisting c)) fits

@@ -15,9 +15,9 @@ use Rattle.decoder.specs.Pages.{Page, page_in}
 use Rattle.decoder.specs.Wanted.{Wanted}
 use Rattle.decoder.proofs.OwnTexts.{page_texts, line_texts}
 use Rattle.reflector.specs.Client.{Objects, place_in, by_place, max_objects, Notice, updated, Cache, SyncPhase, first, next, streaming, Client, fresh, kept, notice_of, differences}
-use Rattle.reflector.specs.Items.{Response, begun, page, line, over, unexpected, page_or_unfit, line_or_unfit, said_of_list, said_of_watch}
+use Rattle.reflector.specs.Items.{Response, begun, page, line, over, unexpected, page_or_unexpected, line_or_unexpected, said_of_list, said_of_watch}
 use Rattle.reflector.specs.Run.{relisting, after_cut, closed, keep_paged, ascends_within_limit, with_page, moved, with_line, with_list, with_next, with_watch, with_item, receives, receives_all}
-use Rattle.reflector.specs.ReplayLaws.{replayed, AreUnderKey, OldSidesMatch, MatchTheirTexts, paged_list_in, KeepsTheirTexts, NotifiesSince, LeadFrom}
+use Rattle.reflector.specs.ReplayLaws.{replayed, AreUnderKey, OldSidesMatch, MatchTheirTexts, paged_list_in, AllMatchTheirTexts, NotifiesSince, LeadFrom}
 use Rattle.reflector.proofs.Olds.{old-append, differences_old, under_key, same_objects, empty_read, insert_read, remove_read, notice_read, differences_read, list_read, texts-append}
 use Rattle.reflector.proofs.Replays.{replayed-append, put_replays, remove_replays, differences_replay}
 
@@ -58,11 +58,11 @@ module _ (wanted : Wanted) where
   head_read true = tt
   head_read false = tt
 
-  page_read : (r : Read Page) → ((p : Page) → r ≡ Ok p → AreTheirTexts wanted p.objects) → ResponseIsRead (page_or_unfit r)
+  page_read : (r : Read Page) → ((p : Page) → r ≡ Ok p → AreTheirTexts wanted p.objects) → ResponseIsRead (page_or_unexpected r)
   page_read (Ok p) h = h p refl
   page_read (Err m) h = tt
 
-  line_read : (r : Read Line) → ((l : Line) → r ≡ Ok l → ShowsItsText wanted l) → ResponseIsRead (line_or_unfit r)
+  line_read : (r : Read Line) → ((l : Line) → r ≡ Ok l → ShowsItsText wanted l) → ResponseIsRead (line_or_unexpected r)
   line_read (Ok l) h = h l refl
   line_read (Err m) h = tt
 
@@ -93,10 +93,10 @@ module _ (wanted : Wanted) where
       }
 
   -- the same cache and notices
-  same : (c : Client) (sync : SyncPhase) (b : Bool) → KeepsTheirTexts wanted c → AreTheirTexts wanted (paged_list_in sync) → NotifiesSince wanted c (record { cache = c.cache; sync = sync; is_awaiting_reply = b; notices = c.notices })
+  same : (c : Client) (sync : SyncPhase) (b : Bool) → AllMatchTheirTexts wanted c → AreTheirTexts wanted (paged_list_in sync) → NotifiesSince wanted c (record { cache = c.cache; sync = sync; is_awaiting_reply = b; notices = c.notices })
   same c sync b read paged_list = record { since = []; waiting = sym (append-nil c.notices); replay = refl; old = tt; has_read = record { objects = read.objects; paged_list = paged_list } }
 
-  checks : (b : Bool) (c good : Client) → KeepsTheirTexts wanted c → NotifiesSince wanted c good → NotifiesSince wanted c (cond b good (relisting c))
+  checks : (b : Bool) (c good : Client) → AllMatchTheirTexts wanted c → NotifiesSince wanted c good → NotifiesSince wanted c (cond b good (relisting c))
   checks true c good read is = is
   checks false c good read is = same c first false read tt
 
@@ -111,7 +111,7 @@ module _ (wanted : Wanted) where
     has_read = record { objects = read; paged_list = paged_list };
   }
 
-  line_notifies : (c : Client) (now : Cache) (l : Line) → c.cache ≡ Some now → KeepsTheirTexts wanted c → ShowsItsText wanted l → NotifiesSince wanted c (with_line c now l)
+  line_notifies : (c : Client) (now : Cache) (l : Line) → c.cache ≡ Some now → AllMatchTheirTexts wanted c → ShowsItsText wanted l → NotifiesSince wanted c (with_line c now l)
   line_notifies c now (put o) is read own =
       let held : kept c.cache ≡ now.objects = ap kept is in
       let here : MatchTheirTexts wanted now.objects = subst (MatchTheirTexts wanted) held read.objects in
@@ -136,7 +136,7 @@ module _ (wanted : Wanted) where
       checks (nat_le now.revision r) c (moved c r now.objects []) read (moves c now.objects now.objects streaming true r [] held refl tt (subst (MatchTheirTexts wanted) held read.objects) tt)
   line_notifies c now error is read own = same c first false read tt
 
-  part_notifies : (c : Client) (r : ℕ) (all : List Stored) (token : Option (List ℕ)) → ascends_within_limit all ≡ true → KeepsTheirTexts wanted c → AreTheirTexts wanted all → NotifiesSince wanted c (keep_paged c r all token)
+  part_notifies : (c : Client) (r : ℕ) (all : List Stored) (token : Option (List ℕ)) → ascends_within_limit all ≡ true → AllMatchTheirTexts wanted c → AreTheirTexts wanted all → NotifiesSince wanted c (keep_paged c r all token)
   part_notifies c r all (Some token) fits read own = same c (next r token all) false read own
   part_notifies c r all None fits read own =
       let o : Objects = fin.from_sorted {R = place_cmp} (by_place all) in
@@ -152,21 +152,21 @@ module _ (wanted : Wanted) where
       first_of true b e = tt
       first_of false b e = absurd cc
 
-  page_notifies : (c : Client) (emitted : List Stored) (p : Page) → KeepsTheirTexts wanted c → AreTheirTexts wanted emitted → AreTheirTexts wanted p.objects → NotifiesSince wanted c (with_page c emitted p)
+  page_notifies : (c : Client) (emitted : List Stored) (p : Page) → AllMatchTheirTexts wanted c → AreTheirTexts wanted emitted → AreTheirTexts wanted p.objects → NotifiesSince wanted c (with_page c emitted p)
   page_notifies c emitted p read paged_list own = go (ascends_within_limit (emitted ++ p.objects)) refl
     where
       go : (b : Bool) → ascends_within_limit (emitted ++ p.objects) ≡ b → NotifiesSince wanted c (cond b (keep_paged c p.revision (emitted ++ p.objects) p.token) (relisting c))
       go true fits = part_notifies c p.revision (emitted ++ p.objects) p.token fits read (texts-append wanted emitted p.objects paged_list own)
       go false fits = same c first false read tt
 
-  list_notifies : (c : Client) (with_it : Page → Client) (response : Response) → ((p : Page) → AreTheirTexts wanted p.objects → NotifiesSince wanted c (with_it p)) → KeepsTheirTexts wanted c → ResponseIsRead response → NotifiesSince wanted c (with_list c with_it response)
+  list_notifies : (c : Client) (with_it : Page → Client) (response : Response) → ((p : Page) → AreTheirTexts wanted p.objects → NotifiesSince wanted c (with_it p)) → AllMatchTheirTexts wanted c → ResponseIsRead response → NotifiesSince wanted c (with_list c with_it response)
   list_notifies c with_it begun h read own = same c c.sync c.is_awaiting_reply read read.paged_list
   list_notifies c with_it (page p) h read own = h p own
   list_notifies c with_it (line l) h read own = same c first false read tt
   list_notifies c with_it over h read own = same c first false read tt
   list_notifies c with_it unexpected h read own = same c first false read tt
 
-  watch_notifies : (c : Client) (cache : Option Cache) (response : Response) → c.cache ≡ cache → KeepsTheirTexts wanted c → ResponseIsRead response → NotifiesSince wanted c (with_watch c cache response)
+  watch_notifies : (c : Client) (cache : Option Cache) (response : Response) → c.cache ≡ cache → AllMatchTheirTexts wanted c → ResponseIsRead response → NotifiesSince wanted c (with_watch c cache response)
   watch_notifies c None begun is read own = same c c.sync c.is_awaiting_reply read read.paged_list
   watch_notifies c (Some now) begun is read own = same c c.sync c.is_awaiting_reply read read.paged_list
   watch_notifies c None (page p) is read own = same c first false read tt
@@ -178,26 +178,26 @@ module _ (wanted : Wanted) where
   watch_notifies c None unexpected is read own = same c first false read tt
   watch_notifies c (Some now) unexpected is read own = same c first false read tt
 
-  item_notifies : (c : Client) (sync : SyncPhase) (x : ReplyItem) → KeepsTheirTexts wanted c → AreTheirTexts wanted (paged_list_in sync) → NotifiesSince wanted c (with_item wanted c sync x)
+  item_notifies : (c : Client) (sync : SyncPhase) (x : ReplyItem) → AllMatchTheirTexts wanted c → AreTheirTexts wanted (paged_list_in sync) → NotifiesSince wanted c (with_item wanted c sync x)
   item_notifies c first x read paged_list = list_notifies c (with_page c []) (said_of_list wanted x) (λ p own. page_notifies c [] p read tt own) read (list_response_read x)
   item_notifies c (next r token set) x read paged_list =
       list_notifies c (with_next c r set) (said_of_list wanted x) (λ p own. checks (nat_eq p.revision r) c (with_page c set p) read (page_notifies c set p read paged_list own)) read (list_response_read x)
   item_notifies c streaming x read paged_list = watch_notifies c c.cache (said_of_watch wanted x) refl read (watch_response_read x)
 
-  step_notifies : (c : Client) (x : ReplyItem) → KeepsTheirTexts wanted c → NotifiesSince wanted c (receives wanted c x)
+  step_notifies : (c : Client) (x : ReplyItem) → AllMatchTheirTexts wanted c → NotifiesSince wanted c (receives wanted c x)
   step_notifies c x read = go c.is_awaiting_reply
     where
       go : (b : Bool) → NotifiesSince wanted c (cond b (with_item wanted c c.sync x) c)
       go true = item_notifies c c.sync x read read.paged_list
       go false = same c c.sync c.is_awaiting_reply read read.paged_list
 
-  pub all_notify : (c : Client) (xs : List ReplyItem) → KeepsTheirTexts wanted c → NotifiesSince wanted c (receives_all wanted c xs)
+  pub all_notify : (c : Client) (xs : List ReplyItem) → AllMatchTheirTexts wanted c → NotifiesSince wanted c (receives_all wanted c xs)
   all_notify c [] read = same c c.sync c.is_awaiting_reply read read.paged_list
   all_notify c (x ∷ xs) read =
       let one : NotifiesSince wanted c (receives wanted c x) = step_notifies c x read in
       joined c (receives wanted c x) (receives_all wanted (receives wanted c x) xs) one (all_notify (receives wanted c x) xs one.has_read)
 
-  pub still_lead : (o : Objects) (c : Client) (xs : List ReplyItem) → KeepsTheirTexts wanted c → LeadFrom o c → LeadFrom o (receives_all wanted c xs)
+  pub still_lead : (o : Objects) (c : Client) (xs : List ReplyItem) → AllMatchTheirTexts wanted c → LeadFrom o c → LeadFrom o (receives_all wanted c xs)
   still_lead o c xs read lead =
       let emitted : NotifiesSince wanted c (receives_all wanted c xs) = all_notify c xs read in (
         subst (OldSidesMatch o) (sym emitted.waiting) (old-append o c.notices emitted.since lead.0 (subst (λ q. OldSidesMatch q emitted.since) (sym lead.1) emitted.old)),
@@ -206,10 +206,10 @@ module _ (wanted : Wanted) where
 
   -- ---- the other events
 
-  pub fresh_read : KeepsTheirTexts wanted fresh
+  pub fresh_read : AllMatchTheirTexts wanted fresh
   fresh_read = record { objects = empty_read wanted; paged_list = tt }
 
-  pub closed_read : (o : Objects) (c : Client) → KeepsTheirTexts wanted c → LeadFrom o c → KeepsTheirTexts wanted (closed c) × LeadFrom o (closed c)
+  pub closed_read : (o : Objects) (c : Client) → AllMatchTheirTexts wanted c → LeadFrom o c → AllMatchTheirTexts wanted (closed c) × LeadFrom o (closed c)
   closed_read o c read lead = go c.is_awaiting_reply
     where
       left : (a : SyncPhase) → AreTheirTexts wanted (paged_list_in (after_cut a))
@@ -217,6 +217,6 @@ module _ (wanted : Wanted) where
       left (next r token set) = tt
       left streaming = tt
 
-      go : (b : Bool) → KeepsTheirTexts wanted (if_awaiting_reply b c) × LeadFrom o (if_awaiting_reply b c)
+      go : (b : Bool) → AllMatchTheirTexts wanted (if_awaiting_reply b c) × LeadFrom o (if_awaiting_reply b c)
       go true = (record { objects = read.objects; paged_list = left c.sync }, lead)
       go false = (read, lead)

@@ -5,11 +5,11 @@ use Rattle.decoder.specs.Wanted.{Wanted}
 use Rattle.reflector.specs.Client.{Objects}
 use Rattle.reflector.specs.EventLaws.{Event, requested, writes, receives, cut, abandons, restart, takes, grows, ClientAndServer, start, after, taken_last, AllLead}
 use Rattle.reflector.specs.FollowsLaws.{Server}
-use Rattle.reflector.specs.ReplayLaws.{KeepsTheirTexts, LeadFrom}
+use Rattle.reflector.specs.ReplayLaws.{AllMatchTheirTexts, LeadFrom}
 use Rattle.reflector.proofs.Exactly.{all_notify, still_lead, fresh_read, closed_read}
 
 module _ (wanted : Wanted) where
-  event_leads : (e : Event) (b : ClientAndServer) (o : Objects) → KeepsTheirTexts wanted b.client → LeadFrom o b.client → KeepsTheirTexts wanted (after wanted b e).client × LeadFrom (taken_last b o e) (after wanted b e).client
+  event_leads : (e : Event) (b : ClientAndServer) (o : Objects) → AllMatchTheirTexts wanted b.client → LeadFrom o b.client → AllMatchTheirTexts wanted (after wanted b e).client × LeadFrom (taken_last b o e) (after wanted b e).client
   event_leads (requested items to) b o read lead = (record { objects = read.objects; paged_list = read.paged_list }, lead)
   event_leads (writes items to) b o read lead = (read, lead)
   event_leads (receives n) b o read lead = ((all_notify wanted b.client (take n b.coming) read).has_read, still_lead wanted o b.client (take n b.coming) read lead)
@@ -19,7 +19,7 @@ module _ (wanted : Wanted) where
   event_leads takes b o read lead = (record { objects = read.objects; paged_list = read.paged_list }, (tt, refl))
   event_leads (grows later) b o read lead = (read, lead)
 
-  all_lead : (events : List Event) (b : ClientAndServer) (o : Objects) → KeepsTheirTexts wanted b.client → LeadFrom o b.client → AllLead wanted b o events
+  all_lead : (events : List Event) (b : ClientAndServer) (o : Objects) → AllMatchTheirTexts wanted b.client → LeadFrom o b.client → AllLead wanted b o events
   all_lead [] b o read lead = tt
   all_lead (e ∷ es) b o read lead = let next = event_leads e b o read lead in (next.1, all_lead es (after wanted b e) (taken_last b o e) next.0 next.1)
 

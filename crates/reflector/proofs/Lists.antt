@@ -8,7 +8,7 @@ use Rattle.wireclient.specs.Reply.{head, whole, end}
 use Rattle.decoder.specs.Wanted.{Wanted}
 use Rattle.decoder.specs.Pages.{Page, page_in}
 use Rattle.reflector.specs.Client.{Objects, place_in, by_place, max_objects, Notice, Cache, SyncPhase, first, next, streaming, Client}
-use Rattle.reflector.specs.Items.{page_or_unfit}
+use Rattle.reflector.specs.Items.{page_or_unexpected}
 use Rattle.reflector.specs.Run.{relisting, keep_paged, ascends_within_limit, with_page, with_list, with_next, receives, receives_all}
 use Rattle.reflector.specs.ListLaws.{answered, IsLastPageOr, ArePages}
 use Rattle.reflector.proofs.Follows.{all_of}
@@ -91,12 +91,12 @@ module _ (wanted : Wanted) where
       → receives wanted (awaiting_reply true sync cache notices) (whole body) ≡ keep_paged (awaiting_reply true sync cache notices) p.revision (emitted ++ p.objects) p.token
   body_received first cache notices r emitted body p from is same fits =
       let c : Client = awaiting_reply true first cache notices in
-      ap (λ read. with_list c (with_page c []) (page_or_unfit read)) is
+      ap (λ read. with_list c (with_page c []) (page_or_unexpected read)) is
       ∙ ap (λ t. with_page c t p) (sym from)
       ∙ ap (λ b. cond b (keep_paged c p.revision (emitted ++ p.objects) p.token) (relisting c)) fits
   body_received (next q token paged_list) cache notices r emitted body p from is same fits =
       let c : Client = awaiting_reply true (next q token paged_list) cache notices in
-      ap (λ read. with_list c (with_next c q paged_list) (page_or_unfit read)) is
+      ap (λ read. with_list c (with_next c q paged_list) (page_or_unexpected read)) is
       ∙ ap (λ b. cond b (with_page c paged_list p) (relisting c)) (eq-eqb _ _ (same ∙ sym from.0))
       ∙ ap (λ t. with_page c t p) from.1
       ∙ ap (λ b. cond b (keep_paged c p.revision (emitted ++ p.objects) p.token) (relisting c)) fits

@@ -12,7 +12,7 @@ use Rattle.decoder.specs.Members.{Read}
 use Rattle.decoder.specs.Pages.{Page, page_in}
 use Rattle.decoder.specs.Lines.{Line, line_in, put, deleted, bookmark, error}
 use Rattle.reflector.specs.Client.{place_in, max_objects, Cache, SyncPhase, first, next, streaming, Client, notice_of}
-use Rattle.reflector.specs.Items.{begun, line, unexpected, page_or_unfit, line_or_unfit, said_of_list, said_of_watch}
+use Rattle.reflector.specs.Items.{begun, line, unexpected, page_or_unexpected, line_or_unexpected, said_of_list, said_of_watch}
 use Rattle.reflector.specs.Run.{relisting, receives, receives_all, ascends_within_limit, moved, after_watch_end, keep_paged, with_item, with_list, with_next, with_page, with_watch}
 use Rattle.reflector.specs.RelistReasons.{body_reason, item_reason, line_reason, list_item_reason, next_page_reason, page_reason, text_reason, watch_item_reason, relist_reason_after, relist_reason_with}
 use Rattle.reflector.specs.declared.relist_reason.RelistReason.{RelistReason}
@@ -85,7 +85,7 @@ module _ (c : Client) (awaiting_reply : c.is_awaiting_reply ≡ true) where
     head_emitted true t = goes_on c (still_sync c awaiting_reply)
     head_emitted false t = ends t
 
-    body_emitted : (r : Read Page) → IsEmitted (body_reason rules r) (with_list c with_it (page_or_unfit r))
+    body_emitted : (r : Read Page) → IsEmitted (body_reason rules r) (with_list c with_it (page_or_unexpected r))
     body_emitted (Ok p) = is p
     body_emitted (Err m) = ends (relist_reason.Malformed m)
 
@@ -108,7 +108,7 @@ module _ (c : Client) (awaiting_reply : c.is_awaiting_reply ≡ true) where
   line_emitted (Some now) (bookmark r) = checked (nat_le now.revision r) StaleBookmark (moved c r now.objects []) (still_sync _ refl)
   line_emitted (Some now) error = ends ErrorEvent
 
-  text_emitted : (now : Option Cache) (r : Read Line) → IsEmitted (text_reason now r) (with_watch c now (line_or_unfit r))
+  text_emitted : (now : Option Cache) (r : Read Line) → IsEmitted (text_reason now r) (with_watch c now (line_or_unexpected r))
   text_emitted now (Ok l) = line_emitted now l
   text_emitted None (Err m) = ends (relist_reason.Malformed m)
   text_emitted (Some now) (Err m) = ends (relist_reason.Malformed m)

@@ -17,7 +17,7 @@ pub record Server : Type 0 where
 
 -- ---- what the client keeps
 
--- m is the highest revision that the client ever reported
+-- the cache is at m, the highest revision that the client ever reported, and has the server's objects of it
 abbrev pub IsCacheOf : Server → ℕ → Option Cache → Type 0
 IsCacheOf server m None = ⊤
 IsCacheOf server m (Some now) = (now.revision ≡ m) × (now.objects ≡ server.at now.revision)

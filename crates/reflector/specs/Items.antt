@@ -15,18 +15,18 @@ pub data Response : Type 0 where
   over : Response  -- the watch has ended
   unexpected : Response
 
-abbrev pub page_or_unfit : Read Page → Response
-page_or_unfit (Ok p) = page p
-page_or_unfit (Err m) = unexpected
+abbrev pub page_or_unexpected : Read Page → Response
+page_or_unexpected (Ok p) = page p
+page_or_unexpected (Err m) = unexpected
 
-abbrev pub line_or_unfit : Read Line → Response
-line_or_unfit (Ok l) = line l
-line_or_unfit (Err m) = unexpected
+abbrev pub line_or_unexpected : Read Line → Response
+line_or_unexpected (Ok l) = line l
+line_or_unexpected (Err m) = unexpected
 
 -- a list is answered by one body
 abbrev pub said_of_list : Wanted → ReplyItem → Response
 said_of_list wanted (head status) = if status == 200 then begun else unexpected
-said_of_list wanted (whole bytes) = page_or_unfit (page_in wanted bytes)
+said_of_list wanted (whole bytes) = page_or_unexpected (page_in wanted bytes)
 said_of_list wanted (reply.line bytes) = unexpected
 said_of_list wanted end = unexpected
 said_of_list wanted malformed = unexpected
@@ -35,6 +35,6 @@ said_of_list wanted malformed = unexpected
 abbrev pub said_of_watch : Wanted → ReplyItem → Response
 said_of_watch wanted (head status) = if status == 200 then begun else unexpected
 said_of_watch wanted (whole bytes) = unexpected
-said_of_watch wanted (reply.line bytes) = line_or_unfit (line_in wanted bytes)
+said_of_watch wanted (reply.line bytes) = line_or_unexpected (line_in wanted bytes)
 said_of_watch wanted end = over
 said_of_watch wanted malformed = unexpected

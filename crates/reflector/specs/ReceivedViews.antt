@@ -27,7 +27,7 @@ abbrev pub is_streaming : SyncPhase → Bool
 is_streaming streaming = true
 is_streaming _ = false
 
--- a page behind what is asked; of a client that follows, none is set aside
+-- after a page: of a continued list the pages so far are kept beside; of any other question there are none
 abbrev pub with_page_after : Client → SyncPhase → Page → Client
 with_page_after c (next revision token paged_list) = with_next c revision paged_list
 with_page_after c _ = with_page c []

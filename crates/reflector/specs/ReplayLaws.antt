@@ -56,8 +56,8 @@ paged_list_in first = []
 paged_list_in (next revision token paged_list) = paged_list
 paged_list_in streaming = []
 
--- so is each that the client keeps, and each that it has set aside
-pub record KeepsTheirTexts (wanted : Wanted) (c : Client) : Type 0 where
+-- each object that the client keeps, and each of its paged list, is as its text says
+pub record AllMatchTheirTexts (wanted : Wanted) (c : Client) : Type 0 where
   pub objects : MatchTheirTexts wanted (kept c.cache)
   pub paged_list : AreTheirTexts wanted (paged_list_in c.sync)
 
@@ -68,7 +68,7 @@ pub record NotifiesSince (wanted : Wanted) (before now : Client) : Type 0 where
   pub waiting : now.notices ≡ before.notices ++ since
   pub replay : replayed (kept before.cache) since ≡ kept now.cache
   pub old : OldSidesMatch (kept before.cache) since
-  pub has_read : KeepsTheirTexts wanted now
+  pub has_read : AllMatchTheirTexts wanted now
 
 -- the waiting notices lead from these objects to those of now
 abbrev pub LeadFrom : Objects → Client → Type 0

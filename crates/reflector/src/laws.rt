@@ -12,7 +12,7 @@ ghost use Rattle.reflector.specs.FollowsLaws.{Server, IsReplyTo, Follows, Follow
 ghost use Rattle.reflector.specs.ListLaws.{ArePages, answered};
 ghost use Rattle.reflector.specs.FittingLaws.{AreFitting, revision_after_all};
 ghost use Rattle.reflector.specs.EventLaws.{AllLead, AreLawful, CachesMatch, Event, start};
-ghost use Rattle.reflector.specs.ReplayLaws.{AreUnderKey, KeepsTheirTexts, LeadFrom, Notifies, NotifiesSince};
+ghost use Rattle.reflector.specs.ReplayLaws.{AreUnderKey, AllMatchTheirTexts, LeadFrom, Notifies, NotifiesSince};
 
 /// Whatever comes of a server's answers, and whatever else happens, the client's objects are the server's at the
 /// revision that it reports, and that revision never falls. So it is after any of the items, in whichever parts
@@ -66,13 +66,13 @@ pub fn notices_replay()
 /// So the waiting notices lead from the objects of the last time that they were taken, or of the start, to those of now
 /// (`waiting`); a request, the connection's end or giving up change neither notices nor objects.
 pub fn notices_replay_exactly()
-    ensures received { (wanted : Wanted) (c : Client) (xs : List ReplyItem) → KeepsTheirTexts wanted c → NotifiesSince wanted c (receives_all wanted c xs) }
-    ensures waiting { (wanted : Wanted) (o : Objects) (c : Client) (xs : List ReplyItem) → KeepsTheirTexts wanted c → LeadFrom o c → LeadFrom o (receives_all wanted c xs) }
-    ensures fresh { (wanted : Wanted) → KeepsTheirTexts wanted fresh × LeadFrom (kept fresh.cache) fresh }
-    ensures asked { (wanted : Wanted) (o : Objects) (c : Client) → KeepsTheirTexts wanted c → LeadFrom o c → KeepsTheirTexts wanted (asked c) × LeadFrom o (asked c) }
-    ensures closed { (wanted : Wanted) (o : Objects) (c : Client) → KeepsTheirTexts wanted c → LeadFrom o c → KeepsTheirTexts wanted (closed c) × LeadFrom o (closed c) }
-    ensures given_up { (wanted : Wanted) (o : Objects) (c : Client) → KeepsTheirTexts wanted c → LeadFrom o c → KeepsTheirTexts wanted (relisting c) × LeadFrom o (relisting c) }
-    ensures taken { (wanted : Wanted) (c : Client) → KeepsTheirTexts wanted c → KeepsTheirTexts wanted (taken c) × LeadFrom (kept c.cache) (taken c) }
+    ensures received { (wanted : Wanted) (c : Client) (xs : List ReplyItem) → AllMatchTheirTexts wanted c → NotifiesSince wanted c (receives_all wanted c xs) }
+    ensures waiting { (wanted : Wanted) (o : Objects) (c : Client) (xs : List ReplyItem) → AllMatchTheirTexts wanted c → LeadFrom o c → LeadFrom o (receives_all wanted c xs) }
+    ensures fresh { (wanted : Wanted) → AllMatchTheirTexts wanted fresh × LeadFrom (kept fresh.cache) fresh }
+    ensures asked { (wanted : Wanted) (o : Objects) (c : Client) → AllMatchTheirTexts wanted c → LeadFrom o c → AllMatchTheirTexts wanted (asked c) × LeadFrom o (asked c) }
+    ensures closed { (wanted : Wanted) (o : Objects) (c : Client) → AllMatchTheirTexts wanted c → LeadFrom o c → AllMatchTheirTexts wanted (closed c) × LeadFrom o (closed c) }
+    ensures given_up { (wanted : Wanted) (o : Objects) (c : Client) → AllMatchTheirTexts wanted c → LeadFrom o c → AllMatchTheirTexts wanted (relisting c) × LeadFrom o (relisting c) }
+    ensures taken { (wanted : Wanted) (c : Client) → AllMatchTheirTexts wanted c → AllMatchTheirTexts wanted (taken c) × LeadFrom (kept c.cache) (taken c) }
 {}
 
 /// Over any run of events, whatever the server answers: after each of them the notices that wait, replayed on the

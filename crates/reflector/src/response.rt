@@ -9,7 +9,7 @@ ghost use Rattle.decoder.specs.Pages as pages;
 ghost use Rattle.reflector.specs.Client.{Cache};
 ghost use Rattle.reflector.specs.declared.relist_reason.RelistReason.{RelistReason};
 ghost use Rattle.reflector.specs.ReceivedViews.{head_said, list_relist_reason, response_of, watch_relist_reason};
-ghost use Rattle.reflector.specs.Items.{line_or_unfit, page_or_unfit, said_of_list, said_of_watch};
+ghost use Rattle.reflector.specs.Items.{line_or_unexpected, page_or_unexpected, said_of_list, said_of_watch};
 ghost use Rattle.reflector.specs.RelistReasons.{body_reason, list_item_reason, status_reason, text_reason, watch_item_reason};
 
 use crate::relist_reason::RelistReason;
@@ -17,6 +17,7 @@ use decoder::{DecodeFault, Line, Page, Wanted, read_line, read_page};
 use std::alloc::{AllocError, Global};
 use wireclient::Item;
 
+/// What one item of the reply means to the question that was asked.
 #[derive(Drop)]
 pub(crate) enum Response {
     /// The reply is an answer (200).
@@ -30,7 +31,7 @@ pub(crate) enum Response {
 }
 
 fn page_response(alloc: Global, wanted: &Wanted, bytes: &[u8]) -> Result<Response, AllocError>
-    ensures said { IfOk result (λ n. response_of n ≡ page_or_unfit (page_in (wanted_of wanted.now) bytes.now)) }
+    ensures said { IfOk result (λ n. response_of n ≡ page_or_unexpected (page_in (wanted_of wanted.now) bytes.now)) }
     ensures relist_reason { (rules : pages.Page → Option RelistReason) → IfOk result (λ n. list_relist_reason rules n ≡ body_reason rules (page_in (wanted_of wanted.now) bytes.now)) }
 {
     match read_page(alloc, wanted, bytes) {
@@ -43,7 +44,7 @@ fn page_response(alloc: Global, wanted: &Wanted, bytes: &[u8]) -> Result<Respons
 }
 
 fn line_response(alloc: Global, wanted: &Wanted, bytes: &[u8]) -> Result<Response, AllocError>
-    ensures said { IfOk result (λ n. response_of n ≡ line_or_unfit (line_in (wanted_of wanted.now) bytes.now)) }
+    ensures said { IfOk result (λ n. response_of n ≡ line_or_unexpected (line_in (wanted_of wanted.now) bytes.now)) }
     ensures relist_reason { (now : Option Cache) → IfOk result (λ n. watch_relist_reason now n ≡ text_reason now (line_in (wanted_of wanted.now) bytes.now)) }
 {
     match read_line(alloc, wanted, bytes) {

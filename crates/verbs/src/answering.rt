@@ -16,7 +16,7 @@ use serde_json::Value;
 use std::alloc::{AllocError, Global};
 use watchline::WatchFrom;
 
-/// What is shown, or the watch that begins.
+/// The answer 200: a body, or the watch that begins.
 pub(crate) fn ok_answer(body: String, watch: Option<WatchFrom>) -> Answer
     ensures { answer_of result ≡ record { status = 200; body = string_bytes body; watch = option_map watch_from watch } }
 {

@@ -19,12 +19,12 @@ use Rattle.lists.specs.declared.rows.Start.{Start as TheStart}
 use Rattle.lists.specs.Labels.{labels_of, selection_of}
 use Rattle.lists.specs.Rows.{Start, matching, place_of}
 use Rattle.lists.specs.Views.{start_of}
-use Rattle.watchline.specs.declared.cursor.SelectedWatch.{SelectedWatch}
+use Rattle.watchline.specs.declared.cursor.WatchScope.{WatchScope}
 use Rattle.watchline.specs.declared.opening.InitialEvents.TheVariants.{NoneSelected, Objects as SomeObjects}
 use Rattle.watchline.specs.Lines.{added, error_line, line_of}
 use Rattle.watchline.specs.Opening.{initial_of}
 use Rattle.watchline.specs.Views.{initial_left_of, objects_at}
-use Rattle.watchline.specs.Watches.{Cursor, InitialLeft, HistoryWindow, Turn, changes_left, changes_sent, coming, entries_left, expiring, from_history, from_view, key_at, initial_left_after, initial_left_from, initial_left_after_count, moved, objects_left, position_by, pumped, sending, wanted}
+use Rattle.watchline.specs.Watches.{Cursor, InitialLeft, HistoryWindow, Turn, changes_left, changes_sent, coming, entries_left, expiring, from_history, from_view, key_at, initial_left_by_next, initial_left_from, initial_left_after_count, moved, objects_left, position_by, pumped, sending, wanted}
 use Rattle.watchline.proofs.Putting.{lt-taken, room-taken, take-behind}
 
 abbrev pub Entries : Type 0
@@ -64,7 +64,7 @@ pub min_high : (v : View) (p : ℕ) → min p v.current ≤ v.current
 min_high v p = omega arith
 
 -- the page of rows at the lesser of the two is of the objects at the position
-pub page_at : (v : View) (scope : SelectedWatch) (position revision max : ℕ) (start : TheStart) (page : SeenPage) → IsView v → revision ≡ min position v.current
+pub page_at : (v : View) (scope : WatchScope) (position revision max : ℕ) (start : TheStart) (page : SeenPage) → IsView v → revision ≡ min position v.current
     → page ≡ limited (Some max) (matching scope.selector (listed scope.kind (option_map string_bytes scope.namespace) (start_of start) (state_in v revision)))
     → page ≡ limited (Some max) (objects_at v scope position start)
 page_at v scope position revision max start page sound at is =
@@ -74,7 +74,7 @@ page_at v scope position revision max start page sound at is =
     (ap (state_in v) at ∙ state_min v position sound)
     )
 
-pub left_same : (left : Option TheStart) (next : Option Key) → option_map start_of left ≡ option_map place_of next → initial_left_of left ≡ initial_left_after next
+pub left_same : (left : Option TheStart) (next : Option Key) → option_map start_of left ≡ option_map place_of next → initial_left_of left ≡ initial_left_by_next next
 left_same None None is = refl
 left_same None (Some k) is = absurd cc
 left_same (Some start) None is = absurd cc
@@ -114,7 +114,7 @@ module _ (s : HistoryWindow) (w : Cursor) (room : ℕ) (objects : Entries) (chan
         (position_is ∙ ap₂ (λ b cs. position_by b s.current (reached w.position cs)) has_room sent_are)
         (sent_is ∙ ap (reached w.sent) sent_are) left_is
 
-pub past_some : (room : ℕ) (es : Entries) (left : InitialLeft) → (room ≡ 0 → ⊥) → initial_left_after_count room es left ≡ initial_left_after (next_of room es)
+pub past_some : (room : ℕ) (es : Entries) (left : InitialLeft) → (room ≡ 0 → ⊥) → initial_left_after_count room es left ≡ initial_left_by_next (next_of room es)
 past_some zero es left h = absurd (h refl)
 past_some (suc n) es left h = refl
 

@@ -23,7 +23,7 @@ use Rattle.watchline.specs.declared.opening.InitialEvents.TheVariants.{Changes, 
 use Rattle.watchline.specs.Lines.{added, bookmark_line, line_of}
 use Rattle.watchline.specs.Opening.{WatchFrom, first_cursor, sent_of}
 use Rattle.watchline.specs.TurnLaws.{SkipsNothing, after_turns, lines_by, room_of}
-use Rattle.watchline.specs.Watches.{Cursor, InitialLeft, BookmarkTurn, Turn, bookmarked, changes_left, changes_sent, coming, entries_left, expiring, from_history, is_bookmark_due, key_at, initial_left_after, initial_left_from, initial_left_after_count, moved, no_initial_left, objects_left, position_by, position_past, pumped, sending, wanted}
+use Rattle.watchline.specs.Watches.{Cursor, InitialLeft, BookmarkTurn, Turn, bookmarked, changes_left, changes_sent, coming, entries_left, expiring, from_history, is_bookmark_due, key_at, initial_left_by_next, initial_left_from, initial_left_after_count, moved, no_initial_left, objects_left, position_by, position_past, pumped, sending, wanted}
 use Rattle.watchline.proofs.Coming.{Entries}
 use Rattle.watchline.proofs.Putting.{drop-add, drop-behind}
 
@@ -62,12 +62,12 @@ not_empty (suc n) [] h lots is = omega (arith, lots)
 not_empty (suc n) (e ∷ es) h lots is = some_last e (take n es) is
 
 by_last : (kind n : ℕ) (all es : Entries) → suc n < length es → ((k : Key) → last_key (take (suc n) es) ≡ Some k → past (key_at kind (k.namespace, k.name)) all ≡ drop (suc n) es)
-    → (o : Option Key) → last_key (take (suc n) es) ≡ o → entries_left kind (initial_left_after o) all ≡ drop (suc n) es
+    → (o : Option Key) → last_key (take (suc n) es) ≡ o → entries_left kind (initial_left_by_next o) all ≡ drop (suc n) es
 by_last kind n all es lots on None is = absurd (not_empty (suc n) es (omega arith) (omega (arith, lots)) is)
 by_last kind n all es lots on (Some k) is = on k is
 
 by_more : (kind n : ℕ) (all es : Entries) → ((k : Key) → last_key (take (suc n) es) ≡ Some k → past (key_at kind (k.namespace, k.name)) all ≡ drop (suc n) es)
-    → (b : Bool) → nat_lt (suc n) (length es) ≡ b → entries_left kind (initial_left_after (cond b (last_key (take (suc n) es)) None)) all ≡ drop (suc n) es
+    → (b : Bool) → nat_lt (suc n) (length es) ≡ b → entries_left kind (initial_left_by_next (cond b (last_key (take (suc n) es)) None)) all ≡ drop (suc n) es
 by_more kind n all es on true lots = by_last kind n all es (ltb-true (suc n) (length es) lots) on (last_key (take (suc n) es)) refl
 by_more kind n all es on false few = sym (drop_of_length-le es (ltb-false (suc n) (length es) few))
 
@@ -114,7 +114,7 @@ none_on : (kind room : ℕ) (es all : Entries) (left : InitialLeft) → 0 < room
 none_on kind zero es all left some few = absurd (omega (arith, some))
 none_on kind (suc n) es all left some few = by_few (nat_lt (suc n) (length es)) refl
   where
-    by_few : (b : Bool) → nat_lt (suc n) (length es) ≡ b → entries_left kind (initial_left_after (cond b (last_key (take (suc n) es)) None)) all ≡ []
+    by_few : (b : Bool) → nat_lt (suc n) (length es) ≡ b → entries_left kind (initial_left_by_next (cond b (last_key (take (suc n) es)) None)) all ≡ []
     by_few true lots = absurd (let h : suc n < length es = ltb-true (suc n) (length es) lots in omega arith)
     by_few false t = refl
 

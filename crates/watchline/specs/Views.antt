@@ -14,7 +14,7 @@ use Rattle.watchline.specs.declared.seen.SeenKind.{SeenKind as TheSeenKind}
 use Rattle.watchline.specs.declared.seen.SeenKind.TheVariants as kind
 use Rattle.watchline.specs.declared.seen.Seen.{Seen as TheSeen}
 use Rattle.watchline.specs.declared.opening.WatchFrom.{WatchFrom as TheWatchFrom}
-use Rattle.watchline.specs.declared.cursor.SelectedWatch.{SelectedWatch as TheScope}
+use Rattle.watchline.specs.declared.cursor.WatchScope.{WatchScope as TheScope}
 use Rattle.watchline.specs.declared.cursor.Progress.{Progress as TheProgress}
 use Rattle.watchline.specs.declared.cursor.Pumped.{Pumped as ThePumped}
 use Rattle.watchline.specs.Opening.{WatchFrom}

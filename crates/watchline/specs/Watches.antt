@@ -79,14 +79,15 @@ coming s w = map added (objects_left s w) ++ changes_left s w
 abbrev pub changes_sent : HistoryWindow → ℕ → Cursor → List SeenChange
 changes_sent s room w = take (room - length (objects_left s w)) (changes_left s w)
 
-abbrev pub initial_left_after : Option Key → InitialLeft
-initial_left_after None = no_initial_left
-initial_left_after (Some k) = initial_left_from (Some (k.namespace, k.name))
+-- by the key that the next turn begins after; none: nothing follows
+abbrev pub initial_left_by_next : Option Key → InitialLeft
+initial_left_by_next None = no_initial_left
+initial_left_by_next (Some k) = initial_left_from (Some (k.namespace, k.name))
 
 -- what is left of these after so many
 abbrev pub initial_left_after_count : ℕ → List (Key × Object) → InitialLeft → InitialLeft
 initial_left_after_count zero es left = left
-initial_left_after_count (suc n) es left = initial_left_after (next_of (suc n) es)
+initial_left_after_count (suc n) es left = initial_left_by_next (next_of (suc n) es)
 
 abbrev pub position_by : Bool → ℕ → ℕ → ℕ
 position_by has_room current p = if has_room then max p current else p

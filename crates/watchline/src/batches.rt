@@ -11,7 +11,7 @@ ghost use Rattle.history.specs.Read.{change_of};
 ghost use Rattle.watchline.specs.BatchViews.{AreBetween, IsNotBelow, changes_past, revision_of_last, to_read};
 ghost use Rattle.watchline.specs.Views.{seen_change_of};
 
-use crate::cursor::SelectedWatch;
+use crate::cursor::WatchScope;
 use crate::seen::{Seen, seen_each};
 use history::Change;
 use lists::LabelCache;
@@ -34,7 +34,7 @@ fn revision_of_last(changes: &[Change]) -> Option<u64>
 /// The first changes of a watch's type and namespace after a revision.
 fn changes_after(
     store: &mut Store,
-    scope: &SelectedWatch,
+    scope: &WatchScope,
     after: u64,
     max: u64,
 ) -> Result<Vec<Change>, Fault>
@@ -52,7 +52,7 @@ fn changes_after(
 /// The same, and the revision after which the next ones come, unless these were the last.
 fn next_changes(
     store: &mut Store,
-    scope: &SelectedWatch,
+    scope: &WatchScope,
     after: u64,
     max: usize,
 ) -> Result<(Vec<Change>, Option<u64>), Fault>
@@ -96,7 +96,7 @@ fn cut(found: Vec<Seen>, max: usize) -> Vec<Seen>
 pub(crate) fn seen_after(
     labels: &mut LabelCache,
     store: &mut Store,
-    scope: &SelectedWatch,
+    scope: &WatchScope,
     after: u64,
     max: usize,
 ) -> Result<Vec<Seen>, Fault>

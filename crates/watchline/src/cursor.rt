@@ -18,14 +18,14 @@ use std::marker::Model;
 
 /// What a watch is of, and whether it sends bookmarks.
 #[derive(Debug, Drop)]
-pub(crate) struct SelectedWatch {
+pub(crate) struct WatchScope {
     pub(crate) kind: u32,
     pub(crate) namespace: Option<String>,
     pub(crate) selector: Selector,
     pub(crate) bookmarks: bool,
 }
 
-impl SelectedWatch {
+impl WatchScope {
     pub(crate) fn namespace(&self) -> Option<&str>
         ensures { option_map (λ s. s.now) result ≡ option_map string_bytes self.now.namespace }
     {
@@ -59,7 +59,7 @@ impl SelectedWatch {
     }
 
     /// Whether both select the same objects: those of one type and namespace that meet the same requirements.
-    fn is_alike(&self, other: &SelectedWatch) -> bool
+    fn is_alike(&self, other: &WatchScope) -> bool
         ensures kind { IsTrue result → self.now.kind ≡ other.now.kind }
         ensures namespace { IsTrue result → option_map string_bytes self.now.namespace ≡ option_map string_bytes other.now.namespace }
         ensures selector { IsTrue result → self.now.selector ≡ other.now.selector }
@@ -116,7 +116,7 @@ pub struct Pumped {
 /// Where a watch stands.
 #[derive(Debug, Drop)]
 pub struct WatchCursor {
-    scope: SelectedWatch,
+    scope: WatchScope,
     progress: Progress,
 }
 
@@ -158,7 +158,7 @@ impl WatchCursor {
             sent: sent_of(from.initial, from.position),
             left: left_of(from.initial),
         };
-        let scope = SelectedWatch {
+        let scope = WatchScope {
             kind: from.kind,
             namespace: from.namespace,
             selector: from.selector,
@@ -214,7 +214,7 @@ impl WatchCursor {
         if self.progress.left.is_some() {
             return Ok(None);
         }
-        let scope = SelectedWatch {
+        let scope = WatchScope {
             kind: self.scope.kind,
             namespace: copied(alloc, self.scope.namespace())?,
             selector: self.scope.selector.try_copy(alloc)?,

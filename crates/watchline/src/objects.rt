@@ -6,7 +6,7 @@ ghost use Rattle.history.specs.Read.{entry_of};
 ghost use Rattle.watchline.specs.Watches.{from_view, initial_left_after_count, objects_left};
 ghost use Rattle.watchline.specs.Views.{cursor_of, initial_left_of, objects_at};
 
-use crate::cursor::{Progress, SelectedWatch};
+use crate::cursor::{Progress, WatchScope};
 use history::Entry;
 use lists::{Selected, Start, next_start, selected_page};
 use revstore::Store;
@@ -17,7 +17,7 @@ use std::alloc::Global;
 fn objects_from(
     alloc: Global,
     store: &mut Store,
-    scope: &SelectedWatch,
+    scope: &WatchScope,
     position: u64,
     start: &Start,
     max: usize,
@@ -46,7 +46,7 @@ fn objects_from(
 pub(crate) fn objects_sent(
     alloc: Global,
     store: &mut Store,
-    scope: &SelectedWatch,
+    scope: &WatchScope,
     progress: &Progress,
     max: usize,
 ) -> Result<(Vec<Entry>, Option<Start>), Fault>

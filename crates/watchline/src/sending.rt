@@ -8,7 +8,7 @@ ghost use Rattle.watchline.specs.Watches.{from_view, position_by, sending};
 ghost use Rattle.watchline.specs.Views.{seen_change_of, cursor_of, lines_in, turn_of};
 
 use crate::batches::seen_after;
-use crate::cursor::{Progress, Pumped, SelectedWatch};
+use crate::cursor::{Progress, Pumped, WatchScope};
 use crate::lines::{change_line, error_line, object_line};
 use crate::objects::objects_sent;
 use crate::seen::{Seen, reached};
@@ -82,7 +82,7 @@ fn moved(
 pub(crate) fn next_turn(
     labels: &mut LabelCache,
     store: &mut Store,
-    scope: &SelectedWatch,
+    scope: &WatchScope,
     progress: &Progress,
     max: usize,
 ) -> Result<(Pumped, Progress), Fault>

@@ -8,7 +8,7 @@ use Rattle.decoder.specs.Wanted.{Wanted}
 use Rattle.wireclient.specs.Reply.{ReplyItem}
 use Rattle.reflector.specs.Client.{Client, Objects, kept, max_objects}
 use Rattle.reflector.specs.InformerViews as informers
-use Rattle.reflector.specs.ReplayLaws.{KeepsTheirTexts, LeadFrom}
+use Rattle.reflector.specs.ReplayLaws.{AllMatchTheirTexts, LeadFrom}
 use Rattle.reflector.specs.Requests.{Settings}
 use Rattle.reflector.specs.Run.{taken}
 use Rattle.reflector.specs.declared.informer.Informer.{Informer}
@@ -31,7 +31,7 @@ ClientRepresents keys i w = (bytes : List ℕ) × (emitted : List ReplyItem) × 
 
 -- the waiting notices lead from these objects to those of now
 pub record NoticesReach (wanted : Wanted) (o : Objects) (c : Client) : Type 0 where
-  pub read : KeepsTheirTexts wanted c
+  pub read : AllMatchTheirTexts wanted c
   pub lead : LeadFrom o c
   pub few : fin.len (kept c.cache) ≤ max_objects
 

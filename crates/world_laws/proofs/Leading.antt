@@ -19,7 +19,7 @@ use Rattle.line_laws.specs.Shown.{taken}
 use Rattle.verbs.specs.Machine.{IsMachine}
 use Rattle.reflector.specs.Client.{place_in}
 use Rattle.reflector.specs.FollowsLaws.{IsLineStep, Server, IsWatchStep, IsWatchReply}
-use Rattle.reflector.specs.Items.{line_or_unfit}
+use Rattle.reflector.specs.Items.{line_or_unexpected}
 use Rattle.wireclient.specs.Reply.{ReplyItem, malformed, max_line}
 use Rattle.wireclient.specs.Reply as reply
 use Rattle.wire_laws.specs.Watched.{lines_sent}
@@ -78,7 +78,7 @@ module _ (types : List ServedShape) (task : Task) (machine : History) (is : IsTa
 
       by_length : (b : Bool) → IsWatchReply server wanted p (cond b (reply.line (line_text x) ∷ news) (malformed ∷ [])) q
       by_length true =
-          subst (λ (r : Read Line). IsWatchStep server p (line_or_unfit r) (λ n. IsWatchReply server wanted n news q)) (sym line.reads)
+          subst (λ (r : Read Line). IsWatchStep server p (line_or_unexpected r) (λ n. IsWatchReply server wanted n news q)) (sym line.reads)
           (line_goes x.kind x.key x.object line.stored p (λ n. IsWatchReply server wanted n news q) line.is_it own next.above next.within next.applies others)
       by_length false = tt
 

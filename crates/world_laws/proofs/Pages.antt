@@ -30,7 +30,7 @@ use Rattle.decoder.specs.Pages.{Page, page_in}
 use Rattle.decoder.specs.Wanted.{Wanted}
 use Rattle.reflector.specs.Client.{place_in}
 use Rattle.reflector.specs.FollowsLaws.{IsPart, IsListStep, IsListReply, Server}
-use Rattle.reflector.specs.Items.{begun, page_or_unfit, unexpected}
+use Rattle.reflector.specs.Items.{begun, page_or_unexpected, unexpected}
 use Rattle.line_laws.specs.Listed.{AreReadAs, IsReadAsPage, page_with}
 use Rattle.line_laws.proofs.Kept.{leaf_value_read}
 use Rattle.line_laws.proofs.SeenBodies.{all_taken}
@@ -81,11 +81,11 @@ module _ (server : Server) (wanted : Wanted) (m : ℕ) (paged_list : List Stored
   answered_goes body p ends read goes items (inl same) = subst (IsListReply server wanted m paged_list) (sym same) (by_length (nat_le (length body) max_body))
     where
       by_length : (b : Bool) → IsListReply server wanted m paged_list (cond b (head 200 ∷ whole body ∷ end ∷ []) (malformed ∷ []))
-      by_length true = subst (λ (r : Read Page). IsListStep server m paged_list (page_or_unfit r) (IsListReply server wanted m paged_list (end ∷ []))) (sym read) goes
+      by_length true = subst (λ (r : Read Page). IsListStep server m paged_list (page_or_unexpected r) (IsListReply server wanted m paged_list (end ∷ []))) (sym read) goes
       by_length false = tt
   answered_goes body p ends read goes items (inr (k, short, same)) = subst (IsListReply server wanted m paged_list) (sym same) (by_prefix (page_in wanted (take k body)) refl)
     where
-      by_prefix : (r : Read Page) → page_in wanted (take k body) ≡ r → IsListStep server m paged_list (page_or_unfit r) (IsListReply server wanted m paged_list (end ∷ []))
+      by_prefix : (r : Read Page) → page_in wanted (take k body) ≡ r → IsListStep server m paged_list (page_or_unexpected r) (IsListReply server wanted m paged_list (end ∷ []))
       by_prefix (Ok q) is = absurd (no_page_in_prefix wanted body k p q ends short read is)
       by_prefix (Err e) is = tt
 

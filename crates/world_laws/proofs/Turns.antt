@@ -33,7 +33,7 @@ use Rattle.verbs.specs.Watching.{bookmarked_as, bookmarked_in}
 use Rattle.httpedge.specs.Watches.{Watch, has_timed_out, line_list, pumped, ticked, turned, unless_ended, with_cursor}
 use Rattle.reflector.specs.FollowsLaws.{Server, IsWatchStep, IsWatchReply}
 use Rattle.reflector.specs.Items as items
-use Rattle.reflector.specs.Items.{line_or_unfit}
+use Rattle.reflector.specs.Items.{line_or_unexpected}
 use Rattle.wireclient.specs.LineLaws.{HasNoFeed}
 use Rattle.wireclient.specs.Reads.{max_body}
 use Rattle.wireclient.specs.Reply.{ReplyItem, end, malformed, max_line}
@@ -212,7 +212,7 @@ module _ (types : List ServedShape) (task : Task) (machine : History) (is : IsTa
       }
     where
       by_length : (text : List ℕ) (b : Bool) → line_in (wanted_by task) text ≡ Ok reads.error → IsWatchReply server (wanted_by task) p (cond b (reply.line text ∷ end ∷ []) (malformed ∷ [])) p
-      by_length text true says = subst (λ (l : Read Line). IsWatchStep server p (line_or_unfit l) (λ q. IsWatchReply server (wanted_by task) q (end ∷ []) p)) (sym says) tt
+      by_length text true says = subst (λ (l : Read Line). IsWatchStep server p (line_or_unexpected l) (λ q. IsWatchReply server (wanted_by task) q (end ∷ []) p)) (sym says) tt
       by_length text false says = tt
 
   -- ---- its turn at a tick
@@ -236,7 +236,7 @@ module _ (types : List ServedShape) (task : Task) (machine : History) (is : IsTa
       }
     where
       by_length : (text : List ℕ) (b : Bool) → line_in (wanted_by task) text ≡ Ok (reads.bookmark p) → IsWatchReply server (wanted_by task) p (cond b (reply.line text ∷ []) (malformed ∷ [])) p
-      by_length text true says = subst (λ (l : Read Line). IsWatchStep server p (line_or_unfit l) (λ q. IsWatchReply server (wanted_by task) q [] p)) (sym says) (omega arith, come, refl, (omega arith, come, refl))
+      by_length text true says = subst (λ (l : Read Line). IsWatchStep server p (line_or_unexpected l) (λ q. IsWatchReply server (wanted_by task) q [] p)) (sym says) (omega arith, come, refl, (omega arith, come, refl))
       by_length text false says = tt
   marks false = record {
     texts = [];

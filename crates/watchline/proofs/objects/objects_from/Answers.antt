@@ -5,7 +5,7 @@ use Rattle.history.specs.View.{state_in}
 use Rattle.lists.specs.Rows.{matching}
 use Rattle.lists.specs.Views.{page_seen, start_of}
 use Rattle.watchline.specs.Views.{initial_left_of, objects_at}
-use Rattle.watchline.specs.Watches.{initial_left_after}
+use Rattle.watchline.specs.Watches.{initial_left_by_next}
 use Rattle.watchline.proofs.Coming.{left_same, min_high, min_low, page_at, past_some}
 use Rattle.watchline.proofs.objects.objects_from.Goals as goal
 
@@ -37,7 +37,7 @@ returns-clause-left c =
     let scope = c.args.scope.now in
     let start = c.args.start.now in
     left_same c.in_ok-left.left (page_seen c.in_ok-page.page).next c.in_ok-left.ensures
-    ∙ ap (λ p. initial_left_after p.next) (
+    ∙ ap (λ p. initial_left_by_next p.next) (
     page_at v scope c.args.position c.min-revision.result c.args.max start (page_seen c.in_ok-page.page) c.requires.sound
     (c.min-revision.ensures ∙ ap (min c.args.position) c.current.ensures.current)
     (c.in_ok-page.ensures.page
