@@ -11,7 +11,6 @@ use Rattle.httpedge.proofs.NextIds.{next_is_new}
 use Rattle.httpedge.specs.Connections.{Connection, Connections, Phase, ended, gone, is_new, max_open, next_id, open_count, new_connection, waiting, watching, with_written}
 use Rattle.httpedge.specs.Runs as runs
 use Rattle.httpedge.specs.Steps as edge
-use Rattle.reflector.proofs.Follows.{is_asked, is_fresh, is_taken}
 use Rattle.reflector.specs.Client.{Cache, Client}
 use Rattle.reflector.specs.FollowsLaws.{Follows}
 use Rattle.reflector.specs.InformerViews.{due}
@@ -169,13 +168,13 @@ module _ (laws : Laws) (task : Task) where
   cuts_hold m w v None is same = same_holds m w v same is
   cuts_hold m w v (Some own) is leaves =
       (leaves_hold m (record w { client = closed w.client }) v (Some own) (closed_silent w.client)
-      (with_client m w (closed w.client) is (closed_goes task w.hub.machine m w.client w.client.is_awaiting_reply w.connection w.connection w.hub.connections w.hub.connections is.goes)) leaves).holds
+      (with_client m w (closed w.client) is (closed_goes task w.hub.machine m laws w.client w.client.is_awaiting_reply w.connection w.connection w.hub.connections w.hub.connections is.goes)) leaves).holds
 
   restarts_hold : (m : ℕ) (w v : World) → RunInvariant task m w → Leaves (record w { client = restarted w.client }) w.connection v → RunInvariant task m v
   restarts_hold m w v is leaves =
       let any = goes_follows task w.hub.machine m w.client w.client.is_awaiting_reply w.connection w.hub.connections is.goes in
       (leaves_hold m (record w { client = restarted w.client }) v w.connection refl
-      (with_client m w (restarted w.client) is (is_fresh (server_of task w.hub.machine) (wanted_by task) m [] 0 any.2.low)) leaves).holds
+      (with_client m w (restarted w.client) is (laws.client.is_restarted (server_of task w.hub.machine) (wanted_by task) m w.client [] 0 any.2.low)) leaves).holds
 
   -- the client asks
 
@@ -191,7 +190,7 @@ module _ (laws : Laws) (task : Task) where
         to = nothing.0;
         read = nothing_read;
         all = nothing_read;
-        follows = is_asked (server_of task h) (wanted_by task) m c [] [] 0 nothing.0 follows nothing.1;
+        follows = laws.client.is_asked (server_of task h) (wanted_by task) m c [] [] 0 nothing.0 follows nothing.1;
         represents = (refl, is_request);
       }
   opening_served h m c id true bytes is_request follows =
@@ -204,7 +203,7 @@ module _ (laws : Laws) (task : Task) where
         to = 0;
         read = nothing_read;
         all = laws.full.1;
-        follows = is_asked (server_of task h) (wanted_by task) m c [] items 0 0 follows (refusal_comes (server_of task h) (wanted_by task) m c.sync c.cache status laws.full.0 0 refl);
+        follows = laws.client.is_asked (server_of task h) (wanted_by task) m c [] items 0 0 follows (refusal_comes (server_of task h) (wanted_by task) m c.sync c.cache status laws.full.0 0 refl);
         represents = tt;
       }
 
@@ -242,7 +241,7 @@ module _ (laws : Laws) (task : Task) where
         begun = is.begun;
         task_is = is.task_is;
         machine = is.machine;
-        goes = sent_goes task w.hub.machine m w.client (is_over w own) (Some own) w.hub.connections there;
+        goes = sent_goes task w.hub.machine m laws w.client (is_over w own) (Some own) w.hub.connections there;
       }
 
   delivers_hold : (m : ℕ) (w v : World) (own : ClientConnection) (n : ℕ) (piece : List ℕ) → take n own.unsent ≡ piece → w.connection ≡ Some own → RunInvariant task m w → IsUnicode w → Delivers w own n piece v → RunInvariant task m v
@@ -297,7 +296,7 @@ module _ (laws : Laws) (task : Task) where
         to = is.to;
         read = is.read;
         all = is.all;
-        follows = is_taken (server_of task h) (wanted_by task) m c is.coming is.to is.follows;
+        follows = laws.client.is_taken (server_of task h) (wanted_by task) m c is.coming is.to is.follows;
         represents = represents_taken is.to (is.sent ++ is.coming) conn.written conn.phase is.represents;
       }
     where
@@ -310,7 +309,7 @@ module _ (laws : Laws) (task : Task) where
       represents_taken to items written (gone had_ended) is = tt
 
   taken_goes : (h : History) (m : ℕ) (c : Client) (b : Bool) (own : Option ClientConnection) (all : Connections) → Goes task h m c b own all → Goes task h m (taken c) b own all
-  taken_goes h m c false own all is = is_taken (server_of task h) (wanted_by task) m c [] 0 is
+  taken_goes h m c false own all is = laws.client.is_taken (server_of task h) (wanted_by task) m c [] 0 is
   taken_goes h m c true None all is = is
   taken_goes h m c true (Some own) all is = taken_served h m c own (fin.get all own.id) is
 

@@ -17,12 +17,14 @@ use Rattle.wireclient.specs.LineLaws.{HasNoFeed, with_feed}
 use Rattle.wireclient.specs.Reads.{Items, has_closed}
 use Rattle.wireclient.specs.Reply.{ReplyItem, head}
 use Rattle.wire_laws.specs.Watched.{sent_of}
+use Rattle.world_laws.proofs.ClientLaws.{ClientLaws}
 
 -- the items of a refusal's reply begin with its status
 abbrev pub IsDenial : Denied → Type 0
 IsDenial d = (others : List ReplyItem) × Items (refusal_reply d) (head (code_of d.reason) ∷ others)
 
 pub record Laws : Type 0 where
+  pub client : ClientLaws
   -- bytes hold one list of items; those of a prefix are a prefix of it, and after the last item come no more
   pub one : (bytes : List ℕ) (items others : List ReplyItem) → Items bytes items → Items bytes others → items ≡ others
   pub same : (bytes more : List ℕ) (before items : List ReplyItem) → Items bytes before → Items (bytes ++ more) items → (after : List ReplyItem) × (items ≡ before ++ after)

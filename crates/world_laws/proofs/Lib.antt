@@ -1,5 +1,6 @@
 pub mod Answered
 pub mod Asking
+pub mod ClientLaws
 pub mod EachHappens
 pub mod EachRuns
 pub mod Edges

@@ -13,8 +13,6 @@ use Rattle.httpedge.specs.Connections.{Connection, Connections, Phase, ended, go
 use Rattle.httpedge.specs.Runs as runs
 use Rattle.httpedge.specs.Runs.{HasGrown}
 use Rattle.httpedge.specs.Steps as edge
-use Rattle.reflector.proofs.Follows.{is_closed}
-use Rattle.reflector.proofs.Grows.{follows_later}
 use Rattle.reflector.specs.Client.{Client}
 use Rattle.reflector.specs.FollowsLaws.{Follows}
 use Rattle.reflector.specs.Requests.{request_of}
@@ -60,26 +58,26 @@ module _ (task : Task) (h : History) (m : ℕ) where
   goes_follows c true (Some own) all is = served_follows c own (fin.get all own.id) is
 
   -- it is told that the connection has ended
-  pub closed_goes : (c : Client) (b : Bool) (old own : Option ClientConnection) (before all : Connections) → Goes task h m c b old before → Goes task h m (closed c) (closed c).is_awaiting_reply own all
-  closed_goes c b old own before all is =
+  pub closed_goes : (laws : Laws) (c : Client) (b : Bool) (old own : Option ClientConnection) (before all : Connections) → Goes task h m c b old before → Goes task h m (closed c) (closed c).is_awaiting_reply own all
+  closed_goes laws c b old own before all is =
       let any = goes_follows c b old before is in
-      silent_goes (closed c) own all [] 0 (closed_silent c) (is_closed (server_of task h) (wanted_by task) m c any.0 [] any.1 0 any.2)
+      silent_goes (closed c) own all [] 0 (closed_silent c) (laws.client.is_closed (server_of task h) (wanted_by task) m c any.0 [] any.1 0 any.2)
 
   -- or not
-  pub sent_goes : (c : Client) (b : Bool) (own : Option ClientConnection) (all : Connections) → Goes task h m c c.is_awaiting_reply own all
+  pub sent_goes : (laws : Laws) (c : Client) (b : Bool) (own : Option ClientConnection) (all : Connections) → Goes task h m c c.is_awaiting_reply own all
       → Goes task h m (if b then closed c else c) (if b then closed c else c).is_awaiting_reply own all
-  sent_goes c true own all is = closed_goes c c.is_awaiting_reply own own all all is
-  sent_goes c false own all is = is
+  sent_goes laws c true own all is = closed_goes laws c c.is_awaiting_reply own own all all is
+  sent_goes laws c false own all is = is
 
 -- ---- the machine grows
 
 served_grown : (laws : Laws) (task : Task) (s t : edge.State) (m : ℕ) (c : Client) (own : ClientConnection) (o : Option Connection) → HasGrown s t → IsServedOn task s.machine m c own o → IsServedOn task t.machine m c own o
 served_grown laws task s t m c own None grown is = absurd is
-served_grown laws task s t m c own (Some conn) grown is = served_later task s.machine t.machine m c own conn grown.current (later_server task s.machine t.machine grown.current (λ r come. laws.stays s t r grown come)) is
+served_grown laws task s t m c own (Some conn) grown is = served_later laws.client task s.machine t.machine m c own conn grown.current (later_server task s.machine t.machine grown.current (λ r come. laws.stays s t r grown come)) is
 
 goes_grown : (laws : Laws) (task : Task) (s t : edge.State) (m : ℕ) (c : Client) (b : Bool) (own : Option ClientConnection) (all : Connections) → HasGrown s t → Goes task s.machine m c b own all → Goes task t.machine m c b own all
 goes_grown laws task s t m c false own all grown is =
-    follows_later (server_of task s.machine) (server_of task t.machine) (wanted_by task) (later_server task s.machine t.machine grown.current (λ r come. laws.stays s t r grown come)) m c [] 0 is
+    laws.client.is_later (server_of task s.machine) (server_of task t.machine) (wanted_by task) m c [] 0 (later_server task s.machine t.machine grown.current (λ r come. laws.stays s t r grown come)) is
 goes_grown laws task s t m c true None all grown is = absurd is
 goes_grown laws task s t m c true (Some own) all grown is = served_grown laws task s t m c own (fin.get all own.id) grown is
 

@@ -5,7 +5,6 @@ use Rattle.api_types.specs.TypesFile.{ServedShape}
 use Rattle.verbs.proofs.Machines.{machines_begin}
 use Rattle.history.specs.History.{History, fresh}
 use Rattle.verbs.specs.Machine.{AreObjectTypes, AreUnicode, IsMachine}
-use Rattle.reflector.proofs.Follows.{is_fresh}
 use Rattle.reflector.specs.Client.{Cache}
 use Rattle.reflector.specs.FollowsLaws.{IsCacheOf}
 use Rattle.world_laws.proofs.Action.{steps_before, steps_hold}
@@ -89,7 +88,7 @@ module _ (laws : Laws) (task : Task) where
         begun = omega arith;
         task_is = is_still types task is;
         machine = machines_begin types 1 shapes (omega arith) (omega arith);
-        goes = is_fresh (server_of task (fresh 1)) (wanted_by task) 1 [] 0 (omega arith);
+        goes = laws.client.is_restarted (server_of task (fresh 1)) (wanted_by task) 1 (start types).client [] 0 (omega arith);
       }
 
 pub whole_run : Laws → Headline

@@ -8,12 +8,12 @@ use Rattle.decoder.specs.Wanted.{Wanted}
 use Rattle.reflector.specs.Client.{SyncPhase, Cache, Client, first, streaming, next}
 use Rattle.reflector.specs.FollowsLaws.{IsReplyTo, Follows, IsCacheOf, IsListStep, Server, IsWatchStep, IsWatchReply}
 use Rattle.reflector.specs.Items.{begun, unexpected}
-use Rattle.reflector.proofs.Grows.{watches-append}
 use Rattle.indexer.specs.Objects.{Stored}
 use Rattle.wireclient.specs.LineLaws.{HasNoFeed, IsLine}
 use Rattle.wireclient.specs.Reads.{Items, has_closed, start}
 use Rattle.wireclient.specs.Reply.{ReplyItem, head, is_last, line, malformed, max_line}
 use Rattle.wire_laws.specs.Watched.{lines_sent}
+use Rattle.world_laws.proofs.ClientLaws.{ClientLaws}
 
 -- ---- lines
 
@@ -49,17 +49,17 @@ closed_behind (x ∷ xs) ys closed = or_right (is_last x) (has_closed (xs ++ ys)
 -- ---- a client that follows
 
 module _ (server : Server) (wanted : Wanted) where
-  comes_more : (m : ℕ) (asks : SyncPhase) (cache : Option Cache) (xs ys : List ReplyItem) (p q : ℕ) → asks ≡ streaming → IsReplyTo server wanted m asks cache xs p → IsWatchReply server wanted p ys q
+  comes_more : (laws : ClientLaws) (m : ℕ) (asks : SyncPhase) (cache : Option Cache) (xs ys : List ReplyItem) (p q : ℕ) → asks ≡ streaming → IsReplyTo server wanted m asks cache xs p → IsWatchReply server wanted p ys q
       → IsReplyTo server wanted m asks cache (xs ++ ys) q
-  comes_more m first cache xs ys p q is comes more = absurd cc
-  comes_more m (next r token paged_list) cache xs ys p q is comes more = absurd cc
-  comes_more m streaming None xs ys p q is comes more = tt
-  comes_more m streaming (Some now) xs ys p q is comes more = watches-append server wanted now.revision p q xs ys comes more
+  comes_more laws m first cache xs ys p q is comes more = absurd cc
+  comes_more laws m (next r token paged_list) cache xs ys p q is comes more = absurd cc
+  comes_more laws m streaming None xs ys p q is comes more = tt
+  comes_more laws m streaming (Some now) xs ys p q is comes more = laws.is_written server wanted now.revision p q xs ys comes more
 
   -- more of its watch
-  pub follows_more : (m : ℕ) (c : Client) (xs ys : List ReplyItem) (p q : ℕ) → c.sync ≡ streaming → Follows server wanted m c xs p → IsWatchReply server wanted p ys q → Follows server wanted m c (xs ++ ys) q
-  follows_more m c xs ys p q is follows more =
-      record { low = follows.low; cache = follows.cache; sync = follows.sync; coming = λ e. comes_more m c.sync c.cache xs ys p q is (follows.coming e) more }
+  pub follows_more : (laws : ClientLaws) (m : ℕ) (c : Client) (xs ys : List ReplyItem) (p q : ℕ) → c.sync ≡ streaming → Follows server wanted m c xs p → IsWatchReply server wanted p ys q → Follows server wanted m c (xs ++ ys) q
+  follows_more laws m c xs ys p q is follows more =
+      record { low = follows.low; cache = follows.cache; sync = follows.sync; coming = λ e. comes_more laws m c.sync c.cache xs ys p q is (follows.coming e) more }
 
   -- nothing of a client that asks nothing
   pub follows_silent : (m : ℕ) (c : Client) (xs ys : List ReplyItem) (p q : ℕ) → c.is_awaiting_reply ≡ false → Follows server wanted m c xs p → Follows server wanted m c ys q

@@ -13,9 +13,7 @@ use Rattle.requests.specs.ReplyBytes.{chunk, chunks, end_bytes, watch_head}
 use Rattle.httpedge.specs.Connections.{Connection, Phase, ended, gone, waiting, watching, with_written}
 use Rattle.httpedge.specs.Steps.{has_no_next, phase_after, turn_bytes}
 use Rattle.httpedge.specs.Watches.{Turn, Watch}
-use Rattle.reflector.proofs.Follows.{items_received}
 use Rattle.reflector.proofs.Reached.{all_stay}
-use Rattle.reflector.proofs.Grows.{follows_later}
 use Rattle.reflector.specs.Client.{Client, streaming}
 use Rattle.reflector.specs.FollowsLaws.{Follows, FollowsFrom, IsLater, IsWatchReply}
 use Rattle.reflector.specs.Run.{receives_all}
@@ -27,6 +25,7 @@ use Rattle.world_laws.proofs.RunInvariant.{IsRead, IsServed, ReadInvariant}
 use Rattle.world_laws.proofs.Mirror.{mirrored, server_of}
 use Rattle.world_laws.proofs.OneWorld.{same_rest}
 use Rattle.world_laws.proofs.Passes.{GoesOnAt, IsTaskWatch, TurnComes}
+use Rattle.world_laws.proofs.ClientLaws.{ClientLaws}
 use Rattle.world_laws.proofs.Laws.{Laws}
 use Rattle.world_laws.proofs.Sending.{FitOrClose, closed_behind, fit_or_close, follows_more, lines_are_sent}
 use Rattle.world_laws.specs.Tasks.{Task, selection, wanted_by}
@@ -48,9 +47,9 @@ represents_later task h g c unsent to items written (watching w) higher (inr clo
 represents_later task h g c unsent to items written ended higher is = tt
 represents_later task h g c unsent to items written (gone had_ended) higher is = tt
 
-pub served_later : (task : Task) (h g : History) (m : ℕ) (c : Client) (own : ClientConnection) (conn : Connection) → h.current ≤ g.current → IsLater (server_of task h) (server_of task g)
+pub served_later : (laws : ClientLaws) (task : Task) (h g : History) (m : ℕ) (c : Client) (own : ClientConnection) (conn : Connection) → h.current ≤ g.current → IsLater (server_of task h) (server_of task g)
     → IsServed task h m c own conn → IsServed task g m c own conn
-served_later task h g m c own conn higher is_later is =
+served_later laws task h g m c own conn higher is_later is =
     record {
       within = is.within;
       sent = is.sent;
@@ -58,7 +57,7 @@ served_later task h g m c own conn higher is_later is =
       to = is.to;
       read = is.read;
       all = is.all;
-      follows = follows_later (server_of task h) (server_of task g) (wanted_by task) is_later m c is.coming is.to is.follows;
+      follows = laws.is_later (server_of task h) (server_of task g) (wanted_by task) m c is.coming is.to is_later is.follows;
       represents = represents_later task h g c own.unsent is.to (is.sent ++ is.coming) conn.written conn.phase higher is.represents;
     }
 
@@ -138,7 +137,7 @@ turn_of laws task h m c own conn w turn is will (inl reads_on) =
       read = handed_still own.handed conn.written (turn_bytes turn) is.sent is.within is.read;
       all = subst (λ (bytes : List ℕ). Items bytes (is.sent ++ (is.coming ++ news))) (sym written)
           (subst (Items (watch_head 200 ++ chunks (map with_feed (reads_on.texts ++ comes.texts)) (has_no_next turn.next))) items (laws.watch (reads_on.texts ++ comes.texts) (has_no_next turn.next) plain));
-      follows = follows_more (server_of task h) (wanted_by task) m c is.coming news is.to comes.to reads_on.sync is.follows watches;
+      follows = follows_more (server_of task h) (wanted_by task) laws.client m c is.coming news is.to comes.to reads_on.sync is.follows watches;
       represents = goes_on task h c own.unsent comes.to (is.sent ++ (is.coming ++ news)) (conn.written ++ turn_bytes turn) reads_on.texts comes.texts turn.next reads_on.sync reads_on.lines
           (fit_or_close comes.texts last comes.plain) comes.next written (sym items ∙ ap (λ (l : List ReplyItem). head 200 ∷ l) (lines_are_sent reads_on.texts comes.texts last reads_on.lines));
     }
@@ -216,7 +215,7 @@ served_on laws task h m c own conn n b bs d piece (sent, news, before, after, re
     let behind = laws.same (prefix ++ b ∷ bs) rest (is.sent ++ news) (is.sent ++ is.coming) second whole in
     let parted : is.coming ≡ news ++ behind.0 = same_rest is.sent is.coming (news ++ behind.0) (behind.1 ∙ append_assoc is.sent news behind.0) in
     let followed : Follows (server_of task h) (wanted_by task) m c (news ++ behind.0) is.to = subst (λ (l : List ReplyItem). Follows (server_of task h) (wanted_by task) m c l is.to) parted is.follows in
-    let on : FollowsFrom (server_of task h) (wanted_by task) m (receives_all (wanted_by task) c news) behind.0 is.to = items_received (server_of task h) (wanted_by task) m c news behind.0 is.to followed in
+    let on : FollowsFrom (server_of task h) (wanted_by task) m (receives_all (wanted_by task) c news) behind.0 is.to = laws.client.is_received (server_of task h) (wanted_by task) m c news behind.0 is.to followed in
     let most : own.handed + length (b ∷ bs) ≤ length conn.written = piece_within own.handed n conn.written (b ∷ bs) is.within piece in
     let some : conn.written ≡ [] → ⊥ = λ none. let long : length conn.written ≡ 0 = ap length none in omega (arith, most, long) in
     subst (IsReceived task h m (record own { handed = own.handed + length (b ∷ bs) }) conn) (sym received) (record {

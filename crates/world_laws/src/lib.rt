@@ -50,6 +50,7 @@ pub fn headline()
     wireclient::prefixes_stand();
     wire_laws::watches_are_read();
     wire_laws::refusals_are_read();
+    reflector::follows_the_server();
     httpedge::machines_grow();
     httpedge::machines_last();
 }

@@ -4,6 +4,15 @@ use Rattle.world_laws.proofs.headline.Goals as goal
 
 pub returns : goal.returns
 returns c = whole_run (record {
+  client = record {
+    is_received = c.follows_the_server.ensures.received;
+    is_asked = c.follows_the_server.ensures.asked;
+    is_closed = c.follows_the_server.ensures.closed;
+    is_restarted = c.follows_the_server.ensures.restarted;
+    is_taken = c.follows_the_server.ensures.taken;
+    is_later = c.follows_the_server.ensures.later;
+    is_written = c.follows_the_server.ensures.written;
+  };
   one = c.one_reading.ensures.items;
   same = c.prefixes_stand.ensures.same;
   closed = c.prefixes_stand.ensures.closed;
