@@ -254,18 +254,18 @@ def limits():
 
 
 def words(path):
-    """The public definitions of a file of specs/, each with its comment's first line."""
-    comment = ""
+    """The public definitions of a file of specs/, each with its comment's first sentence."""
+    comment = []
     for line in text_of(path).split("\n"):
         found = re.match(r"(?:abbrev |unfoldable )?pub (?:record |data )?([^\s:(]+)", line)
         if found and found[1] != "mod":
-            yield found[1], comment
+            yield found[1], sentence(" ".join(comment))
         is_comment = line.startswith("-- ") and not line.startswith("-- ----")
-        comment = (comment or line[3:].strip()) if is_comment else ""
+        comment = [*comment, line[3:].strip()] if is_comment else []
 
 
 def words_page():
-    page = ["# Words of the definitions\n", HEAD, "", "The public definitions of `specs/` by crate and file, each with its comment's first line; last those that have none.\n"]
+    page = ["# Words of the definitions\n", HEAD, "", "The public definitions of `specs/` by crate and file, each with its comment's first sentence; last those that have none.\n"]
     for path in (path for crate in crates() for path in files(crate, "specs/**/*.antt")):
         rows = list(words(path))
         bare = ", ".join(f"`{name}`" for name, comment in rows if not comment)
