@@ -27,7 +27,7 @@ use Rattle.lists.proofs.Bounds.{revision_between}
 use Rattle.objects.specs.ReadBack.{max_version}
 use Rattle.decoder.specs.Wanted.{Wanted, is_in}
 use Rattle.line_laws.specs.Listed.{AreKept, AreWanted, IsKept, IsReadAsPage, IsWanted}
-use Rattle.line_laws.proofs.Pages.{page_is_read}
+use Rattle.line_laws.proofs.Pages.{SaysPage, page_is_read, page_says}
 
 abbrev Entries : Type 0
 Entries = List (Key × Object)
@@ -94,6 +94,9 @@ module _ (wanted : Wanted) (of : Collection) (is : IsWanted wanted of) where
       all_limited Fits (page_limit values.limit) (left_after after (whole_list of values.selector s)) (all_left Fits after (whole_list of values.selector s) whole)
 
   -- ---- what is read
+
+  pub leaf_value_says : (values : Values) (revision : ℕ) (s : Objects) → AreKept of s → revision ≤ max_version → SaysPage wanted (list_text of revision (page_of of values s)) revision (page_of of values s)
+  leaf_value_says values revision s kept low = page_says wanted of is revision (page_of of values s) (page_fits values s kept) low
 
   pub leaf_value_read : (values : Values) (revision : ℕ) (s : Objects) → AreKept of s → revision ≤ max_version → IsUtf8 (list_text of revision (page_of of values s))
       → IsReadAsPage wanted (list_text of revision (page_of of values s)) revision (page_of of values s)

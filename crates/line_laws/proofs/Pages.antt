@@ -1,7 +1,9 @@
 -- What a client takes from the body of a list.
-use Rattle.std.proofs.Common.{◌≡◌, ℕ, ◌≤◌, max, true, false, List, [], ◌∷◌, ◌++◌, map, Option, Some, None, option_map, IsUtf8, refl, sym, ap, ap₂, ◌∙◌, arith, zero-le}
+use Rattle.std.proofs.Common.{◌≡◌, ℕ, ◌≤◌, max, Bool, true, false, cond, List, [], ◌∷◌, ◌++◌, map, Option, Some, None, option_map, IsUtf8, refl, sym, ap, ap₂, ◌∙◌, arith, zero-le}
 use Rattle.std.specs.Prelude.{◌||◌, codes, decimal, option_and_then}
-use Rattle.std.specs.declared.result.Result.TheVariants.{Ok}
+use Rattle.std.specs.Str.{is_utf8}
+use Rattle.std.specs.declared.result.Result.TheVariants.{Ok, Err}
+use Rattle.std.proofs.lemmas.Str.{is_utf8-from_IsUtf8}
 use Rattle.serde_json.specs.Data.{Data, Items, no_items, item, depth, items_depth}
 use Rattle.serde_json.specs.Read.{read, max_depth}
 use Rattle.serde_json.specs.Written.{compact_text, has_float, items_have_float}
@@ -20,9 +22,8 @@ use Rattle.decoder.specs.declared.malformed.Malformed.TheVariants.{ApiVersion, J
 use Rattle.json_values.specs.Texts.{unless_empty}
 use Rattle.decoder.specs.Members.{Read, ◌>>=◌, is_text, or_malformed, unless}
 use Rattle.decoder.specs.Objects.{object_of}
-use Rattle.decoder.specs.Pages.{Page, objects_of, page_of}
+use Rattle.decoder.specs.Pages.{Page, objects_of, page_in, page_of}
 use Rattle.decoder.specs.Wanted.{Wanted, api_version_of, is_in}
-use Rattle.decoder.proofs.Texts.{value_read}
 use Rattle.line_laws.specs.Listed.{AreReadAs, AreWanted, IsKept, IsReadAs, IsReadAsPage, IsWanted, identity_of, page_with}
 use Rattle.line_laws.specs.Shown.{HasPlace, IsShown, IsStored}
 use Rattle.line_laws.proofs.Objects.{object_read}
@@ -95,6 +96,26 @@ page_read wanted of revision next ds objects is low are =
     ∙ ap₂ (λ p q. (unless p ApiVersion >>= λ u. unless q Kind) >>= λ u. or_malformed Version (version_of (decimal revision)) >>= λ r. Ok (record { revision = r; token = token; objects = objects }))
     (itself api_version) (itself kind)
     ∙ ap (λ o. or_malformed Version o >>= λ r. Ok (record { revision = r; token = token; objects = objects })) (version_back revision low)
+
+-- as JSON the text is exactly this page, whether or not it is UTF-8
+pub record SaysPage (wanted : Wanted) (text : List ℕ) (revision : ℕ) (page : SeenPage) : Type 0 where
+  pub value : Data
+  pub objects : List Stored
+  pub is_json : read text ≡ Some value
+  pub is_page : page_of wanted value ≡ Ok (page_with revision page.next objects)
+  pub read_as : AreReadAs wanted page.found objects
+
+-- where it is a client reads the page, and where it isn't no JSON
+pub page_by : (wanted : Wanted) (text : List ℕ) (revision : ℕ) (page : SeenPage) (says : SaysPage wanted text revision page) (b : Bool) → is_utf8 text ≡ b
+    → page_in wanted text ≡ cond b (Ok (page_with revision page.next says.objects)) (Err Json)
+page_by wanted text revision page says b utf8 = ap by_text utf8 ∙ go b
+  where
+    by_text : Bool → Read Page
+    by_text t = or_malformed Json (cond t (read text) None) >>= page_of wanted
+
+    go : (b : Bool) → by_text b ≡ cond b (Ok (page_with revision page.next says.objects)) (Err Json)
+    go true = ap (λ (o : Option Data). or_malformed Json o >>= page_of wanted) says.is_json ∙ says.is_page
+    go false = refl
 
 -- ---- its objects
 
@@ -171,14 +192,20 @@ module _ (wanted : Wanted) (of : Collection) (is : IsWanted wanted of) where
   all_items [] are = record { items = no_items; texts = refl; encodable = tt; whole = refl; shallow = zero-le; objects = []; are = refl; read_as = tt }
   all_items (e ∷ es) are = one_more e.0 e.1 are.0.0 are.0.1 es (all_items es are.1)
 
-  pub page_is_read : (revision : ℕ) (page : SeenPage) → AreWanted wanted of page.found → revision ≤ max_version → IsUtf8 (list_text of revision page) → IsReadAsPage wanted (list_text of revision page) revision page
-  page_is_read revision page are low text =
+  pub page_says : (revision : ℕ) (page : SeenPage) → AreWanted wanted of page.found → revision ≤ max_version → SaysPage wanted (list_text of revision page) revision page
+  page_says revision page are low =
       let found = all_items page.found are in
       let token = option_map (continued_at revision) page.next in
-      let same : list_text of revision page ≡ joined_text of (metadata_of revision token) (item_texts found.items) = ap (joined_text of (metadata_of revision token)) found.texts in (
-        found.objects,
-        ap (λ (r : Read Data). r >>= page_of wanted)
-            (value_read (list_text of revision page) (list_value of (metadata_of revision token) found.items) text (ap read same ∙ list_read of revision token found.items found.encodable found.whole found.shallow))
-            ∙ page_read wanted of revision page.next found.items found.objects is low found.are,
-        found.read_as,
-      )
+      let same : list_text of revision page ≡ joined_text of (metadata_of revision token) (item_texts found.items) = ap (joined_text of (metadata_of revision token)) found.texts in
+      record {
+        value = list_value of (metadata_of revision token) found.items;
+        objects = found.objects;
+        is_json = ap read same ∙ list_read of revision token found.items found.encodable found.whole found.shallow;
+        is_page = page_read wanted of revision page.next found.items found.objects is low found.are;
+        read_as = found.read_as;
+      }
+
+  pub page_is_read : (revision : ℕ) (page : SeenPage) → AreWanted wanted of page.found → revision ≤ max_version → IsUtf8 (list_text of revision page) → IsReadAsPage wanted (list_text of revision page) revision page
+  page_is_read revision page are low text =
+      let says = page_says revision page are low in
+      (says.objects, page_by wanted (list_text of revision page) revision page says true (is_utf8-from_IsUtf8 (list_text of revision page) text), says.read_as)

@@ -1,12 +1,13 @@
 -- What a client takes from a line.
-use Rattle.std.proofs.Common.{◌≡◌, ℕ, ◌<◌, ◌≤◌, ◌^◌, true, List, [], ◌∷◌, ◌++◌, Option, Some, IsUtf8, refl, ap, ap₂, subst, ◌∙◌, arith}
+use Rattle.std.proofs.Common.{◌≡◌, ℕ, ◌<◌, ◌≤◌, ◌^◌, Bool, true, false, cond, List, [], ◌∷◌, ◌++◌, Option, Some, None, IsUtf8, refl, ap, ap₂, subst, ◌∙◌, arith}
 use Rattle.std.specs.Prelude.{codes, decimal, option_and_then}
 use Rattle.std.specs.Cmp.Lexicographic.{bytes_decides}
-use Rattle.std.specs.Str.{bytes_eq}
-use Rattle.std.specs.declared.result.Result.TheVariants.{Ok}
+use Rattle.std.specs.Str.{bytes_eq, is_utf8}
+use Rattle.std.specs.declared.result.Result.TheVariants.{Ok, Err}
 use Rattle.std.proofs.lemmas.Str.{IsUtf8-append}
 use Rattle.json.proofs.Printed.Utf8.{are_ascii, IsUtf8-are_ascii}
 use Rattle.serde_json.specs.Data.{Data, null, boolean, number, string, array, object}
+use Rattle.serde_json.specs.Read.{read}
 use Rattle.serde_json.specs.Written.{compact_text}
 use Rattle.names.specs.Decimals.{version_of}
 use Rattle.names.proofs.Decimals.{exact}
@@ -18,7 +19,7 @@ use Rattle.objects.specs.ReadBack.{IsObjectText, max_version}
 use Rattle.history.specs.History.{Object}
 use Rattle.history.specs.Seen.{SeenChange, SeenKind, Added, Modified, Deleted}
 use Rattle.indexer.specs.Objects.{Stored}
-use Rattle.decoder.specs.declared.malformed.Malformed.TheVariants.{ApiVersion, Kind, Version}
+use Rattle.decoder.specs.declared.malformed.Malformed.TheVariants.{ApiVersion, Json, Kind, Version}
 use Rattle.decoder.specs.Lines as reads
 use Rattle.decoder.specs.Lines.{bookmark_of, line_in, line_of}
 use Rattle.json_values.specs.Texts.{unless_empty}
@@ -31,9 +32,26 @@ use Rattle.watchline.specs.Lines.{bookmark_value, expired_message, expired_value
 use Rattle.line_laws.specs.Shown.{IsShown, line_value, shown, taken, version_shown}
 use Rattle.line_laws.proofs.Renumbered.{has_room, object_over, shows_text, text_is}
 use Rattle.line_laws.proofs.Texts.{decimal_utf8, has_texts, renumbered_texts, text_utf8}
-use Rattle.line_laws.proofs.Values.{line_in_value}
+use Rattle.line_laws.proofs.Values.{line_in_value, line_read}
 
 -- ---- a line of any kind
+
+-- as JSON these bytes are this line, whether or not they are UTF-8
+pub record SaysLine (wanted : Wanted) (bytes : List ℕ) (l : reads.Line) : Type 0 where
+  pub value : Data
+  pub is_json : read bytes ≡ Some value
+  pub is_line : line_of wanted value ≡ Ok l
+
+-- where they are a client reads the line, and where they aren't no JSON
+pub line_by : (wanted : Wanted) (bytes : List ℕ) (l : reads.Line) → SaysLine wanted bytes l → (b : Bool) → is_utf8 bytes ≡ b → line_in wanted bytes ≡ cond b (Ok l) (Err Json)
+line_by wanted bytes l says b text = ap by_text text ∙ go b
+  where
+    by_text : Bool → Read reads.Line
+    by_text t = or_malformed Json (cond t (read bytes) None) >>= line_of wanted
+
+    go : (b : Bool) → by_text b ≡ cond b (Ok l) (Err Json)
+    go true = ap (λ (o : Option Data). or_malformed Json o >>= line_of wanted) says.is_json ∙ says.is_line
+    go false = refl
 
 line_says : (wanted : Wanted) (what : EventType) (d : Data) (l : reads.Line) → IsShown d → IsUtf8 (compact_text d) → line_of wanted (line_value what d) ≡ Ok l → line_in wanted (shown what (compact_text d)) ≡ Ok l
 line_says wanted what d l fits text is = ap (λ (r : Read Data). r >>= line_of wanted) (line_in_value what d fits text) ∙ is
@@ -76,6 +94,19 @@ change_read wanted s of v state x o shaped said low text is =
     ap (λ t. line_in wanted (shown (type_of x.kind) t)) same
     ∙ line_says wanted (type_of x.kind) (object_value s of version state) (taken x.kind o) (has_room s of version state shaped.1 said.well_typed.0) (shown_utf8 x.kind s of v state x.object shaped said low text)
     (object_line wanted x.kind (object_value s of version state) o is)
+
+-- what the line of a change says, as JSON
+pub change_says : (wanted : Wanted) (s : Shape) (of : Identity) (v : ℕ) (state : State) (x : SeenChange) (o : Stored) → IsObjectShape s → IsObjectText s of v state x.object.body
+    → object_of wanted (object_value s of (version_shown x.kind v x.object.revision) state) ≡ Ok o → SaysLine wanted (shown (type_of x.kind) (text_shown x.kind x.object)) (taken x.kind o)
+change_says wanted s of v state x o shaped said is =
+    let what : EventType = type_of x.kind in
+    let version : ℕ = version_shown x.kind v x.object.revision in
+    let value : Data = object_value s of version state in
+    record {
+      value = line_value what value;
+      is_json = ap (λ t. read (shown what t)) (shown_text x.kind s of v state x.object shaped said) ∙ line_read what value (has_room s of version state shaped.1 said.well_typed.0);
+      is_line = object_line wanted x.kind value o is;
+    }
 
 pub object_shown : (s : Shape) (of : Identity) (v : ℕ) (state : State) (text : List ℕ) → IsObjectShape s → IsObjectText s of v state text
     → IsShown (object_value s of v state) × (text ≡ compact_text (object_value s of v state))

@@ -1,6 +1,7 @@
 -- What answers the client's request for a page of the list that stands now.
-use Rattle.std.proofs.Common.{◌≡◌, ℕ, ◌<◌, ◌≤◌, min, Bool, true, cond, List, [], ◌∷◌, drop, length, Option, Some, None, option_map, Ok, Err, refl, sym, ap, ap₂, subst, ◌∙◌, arith, le-leb, le_refl, ne_eqb, leb-true, zero-le}
+use Rattle.std.proofs.Common.{◌≡◌, ℕ, ◌<◌, ◌≤◌, min, Bool, true, cond, List, [], ◌∷◌, drop, length, Option, Some, None, option_map, Ok, Err, IsUtf8, refl, sym, ap, ap₂, subst, ◌∙◌, arith, le-leb, le_refl, ne_eqb, leb-true, zero-le}
 use Rattle.std.proofs.lemmas.Bool.{and_parts, le-ltb}
+use Rattle.std.proofs.lemmas.Str.{is_utf8-from_IsUtf8}
 use Rattle.std.specs.FinMap as fin
 use Rattle.std.specs.List.{AllByRecursion}
 use Rattle.std.specs.Prelude.{◌^◌, nat_le}
@@ -15,7 +16,8 @@ use Rattle.lists.specs.Lists.{key_after, max_page, page_limit, page_of}
 use Rattle.lists.specs.Revision.{exactly, revision_by, revision_of}
 use Rattle.lists.specs.TokenLaws.{CanBeListed, token_after}
 use Rattle.lists.specs.declared.refusal.Refusal.TheVariants.{TooLarge}
-use Rattle.line_laws.specs.Listed.{IsReadAsPage}
+use Rattle.decoder.specs.declared.malformed.Malformed.TheVariants.{Json}
+use Rattle.line_laws.specs.Listed.{IsReadAsPage, page_with}
 use Rattle.api_request.specs.Calls.{Call, Plan}
 use Rattle.verbs.specs.Machine.{AreUnicode, IsMachine, IsNamed, after}
 use Rattle.verbs.specs.Step.{planned}
@@ -37,7 +39,7 @@ use Rattle.reflector.specs.Faults.{is_page_size}
 use Rattle.world_laws.proofs.Mirrored.{AllRead, each_read}
 use Rattle.world_laws.proofs.Parts.{all_first, last_has}
 use Rattle.world_laws.proofs.TaskObjects.{named_at, selected_read}
-use Rattle.world_laws.specs.ListCalls.{IsListCall, page_values}
+use Rattle.world_laws.specs.ListCalls.{IsListCall, IsReadAsPageIfUtf8, page_values}
 use Rattle.world_laws.specs.Tasks.{IsTask, Task, selection, wanted_by, with_shape}
 
 -- what the crates below say of lists, as the proofs here use it
@@ -48,13 +50,15 @@ pub record Laws : Type 0 where
       → planned types m call ≡ page_plan (list_text (listed_by t call) revision (page_of (listed_by t call) values (state_at m.changes revision)))
   pub replies : (code : ℕ) (allow : Option (List ℕ)) (body : List ℕ) → IsStatusCode code → IsAllowed allow → length body < 2 ^ 64 → Items (reply code allow body) (reply_sent code body)
   pub short : (code : ℕ) (body : List ℕ) → length body ≤ max_body → reply_sent code body ≡ head code ∷ whole body ∷ end ∷ []
-  pub first : (types : List ServedShape) (task : Task) (machine : History) (call : Call) → IsTask types task → IsMachine types machine → AreUnicode machine.changes → IsListCall types task None call
-      → IsReadAsPage (wanted_by task) (planned types machine call).answer.body machine.current
+  pub first : (types : List ServedShape) (task : Task) (machine : History) (call : Call) → IsTask types task → IsMachine types machine → IsListCall types task None call
+      → IsReadAsPageIfUtf8 (wanted_by task) (planned types machine call).answer.body machine.current
       (seen_page (selection task) None (page_limit task.settings.page) (state_at machine.changes machine.current))
-  pub next : (types : List ServedShape) (task : Task) (machine : History) (revision : ℕ) (k : Key) (call : Call) → IsTask types task → IsMachine types machine → AreUnicode machine.changes
+  pub next : (types : List ServedShape) (task : Task) (machine : History) (revision : ℕ) (k : Key) (call : Call) → IsTask types task → IsMachine types machine
       → IsListCall types task (Some (token_after revision k)) call → k.kind ≡ task.settings.kind → machine.compacted ≤ revision → revision ≤ machine.current
-      → IsReadAsPage (wanted_by task) (planned types machine call).answer.body revision
+      → IsReadAsPageIfUtf8 (wanted_by task) (planned types machine call).answer.body revision
       (seen_page (selection task) (Some k) (page_limit task.settings.page) (state_at machine.changes revision))
+  pub texts : (types : List ServedShape) (task : Task) (machine : History) (token : Option Token) (revision : ℕ) (call : Call) → IsTask types task → IsMachine types machine → IsListCall types task token call
+      → revision_of machine.current machine.compacted (page_values task token) ≡ Ok revision → AreUnicode machine.changes → IsUtf8 (planned types machine call).answer.body
 
 -- a page has as many objects as were asked for
 limit_is : (size : ℕ) → is_page_size size ≡ true → page_limit size ≡ Some size
@@ -83,9 +87,20 @@ module _ (laws : Laws) (task : Task) (h : edge.State) (shape : Shape) (is : IsTa
   module _ (behind : Option Key) (token : Option Token) (call : Call) (asks : Asks h.types (list_request task (option_map (continued_at current) behind)) (accepted call))
       (lists : IsListCall h.types (with_shape task shape) token call) (same : option_map (key_after task.settings.kind) token ≡ behind)
       (revision : revision_of current h.machine.compacted (page_values (with_shape task shape) token) ≡ Ok current)
-      (read : IsReadAsPage (wanted_by task) (planned h.types h.machine call).answer.body current (seen_page (selection task) behind (page_limit size) (state_at h.machine.changes current))) where
+      (by_text : IsReadAsPageIfUtf8 (wanted_by task) (planned h.types h.machine call).answer.body current (seen_page (selection task) behind (page_limit size) (state_at h.machine.changes current))) where
     abbrev text : List ℕ
     text = list_text (collection task) current (page_now task h.machine behind)
+
+    -- it is UTF-8, as the machine's texts are
+    read : IsReadAsPage (wanted_by task) (planned h.types h.machine call).answer.body current (seen_page (selection task) behind (page_limit size) (state_at h.machine.changes current))
+    read =
+        let body : List ℕ = (planned h.types h.machine call).answer.body in
+        let page = seen_page (selection task) behind (page_limit size) (state_at h.machine.changes current) in
+        let utf8 : IsUtf8 body = laws.texts h.types (with_shape task shape) h.machine token current call is machine_is lists revision listable.unicode in (
+          by_text.0,
+          by_text.1 ∙ ap (λ (b : Bool). cond b (Ok (page_with current page.next by_text.0)) (Err Json)) (is_utf8-from_IsUtf8 body utf8),
+          by_text.2,
+        )
 
     plan_is : planned h.types h.machine call ≡ page_plan text
     plan_is =
@@ -118,7 +133,7 @@ module _ (laws : Laws) (task : Task) (h : edge.State) (shape : Shape) (is : IsTa
   first_comes =
       let asked = asks_first laws.asks h.types (with_shape task shape) is listable.first_head in
       comes_by None None asked.0 asked.1 asked.2 refl (ap (λ (b : Bool). cond b (Ok current) (Err (TooLarge 0 current))) (le-leb 0 current zero-le))
-      (laws.first h.types (with_shape task shape) h.machine asked.0 is machine_is listable.unicode asked.2)
+      (laws.first h.types (with_shape task shape) h.machine asked.0 is machine_is asked.2)
 
   module _ (k : Key) (before : Entries) (is_before : IsBefore task h (Some k) before) where
     -- what holds of all entries holds of the last of these
@@ -144,7 +159,7 @@ module _ (laws : Laws) (task : Task) (h : edge.State) (shape : Shape) (is : IsTa
         let low : h.machine.compacted ≤ current = machine_is.whole.low in
         let exact : revision_by current h.machine.compacted (exactly current) ≡ Ok current = rw (le-ltb current h.machine.compacted low, le-leb current current (le_refl current)) refl in
         comes_by (Some k) (Some (token_after current k)) asked.0 asked.1 asked.2 (ap Some (same_key task.settings.kind current k own_kind)) exact
-        (laws.next h.types (with_shape task shape) h.machine current k asked.0 is machine_is listable.unicode asked.2 own_kind low (le_refl current))
+        (laws.next h.types (with_shape task shape) h.machine current k asked.0 is machine_is asked.2 own_kind low (le_refl current))
 
   pub page_comes : (behind : Option Key) (before : Entries) → IsBefore task h behind before → PageComes task h behind
   page_comes None before is_before = first_comes

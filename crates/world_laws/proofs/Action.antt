@@ -3,7 +3,6 @@ use Rattle.std.proofs.Common.{◌≡◌, inl, inr, ℕ, ◌+◌, ◌≤◌, Bool
 use Rattle.std.specs.FinMap as fin
 use Rattle.std.specs.Prelude.{nat_le, if◌then◌else◌}
 use Rattle.history.specs.History.{History}
-use Rattle.verbs.specs.Machine.{AreUnicode}
 use Rattle.api_request.specs.Reasons.{code_of}
 use Rattle.requests.specs.Refusals.{as_denied, too_many_connections}
 use Rattle.requests.specs.Replies.{refusal_reply}
@@ -13,7 +12,6 @@ use Rattle.httpedge.specs.Runs as runs
 use Rattle.httpedge.specs.Steps as edge
 use Rattle.reflector.specs.Client.{Cache, Client}
 use Rattle.reflector.specs.FollowsLaws.{Follows}
-use Rattle.reflector.specs.InformerViews.{due}
 use Rattle.reflector.specs.Requests.{request_of}
 use Rattle.reflector.specs.Run.{asked, closed, restarted, taken}
 use Rattle.wireclient.specs.Reply.{ReplyItem, head}
@@ -21,77 +19,11 @@ use Rattle.wire_laws.proofs.BegunAnswers.{opens_so}
 use Rattle.world_laws.proofs.Edges.{goes_new}
 use Rattle.world_laws.proofs.RunInvariant.{Goes, RunInvariant, IsServed, IsServedOn, ReadInvariant}
 use Rattle.world_laws.proofs.Mirror.{server_of}
-use Rattle.world_laws.proofs.Moving.{GoesHigher, NotBy, closed_goes, closed_silent, goes_follows, goes_received, holds_after, holds_by_others, holds_came, new_apart, not_by, silent_goes, sent_goes, unicode_before}
+use Rattle.world_laws.proofs.Moving.{GoesHigher, NotBy, closed_goes, closed_silent, goes_follows, goes_received, holds_after, holds_by_others, holds_came, new_apart, not_by, silent_goes, sent_goes}
 use Rattle.world_laws.proofs.Laws.{Laws}
 use Rattle.world_laws.proofs.Sending.{nothing_comes, nothing_read, refusal_comes}
 use Rattle.world_laws.specs.Tasks.{Task, client_settings, wanted_by}
 use Rattle.world_laws.specs.World.{ClientConnection, ComesInOnePiece, Cuts, Delivers, Hands, Happens, HubTakes, Leaves, Reconciles, Requests, Sends, Steps, TakesUnless, ToClient, ToServer, World, WorldEvent, after_move, cut, is_by_peer_on, is_over, other, reconcile, reply_on, request, restart, send, to_client, to_server}
-
--- ---- what is Unicode was so before
-
-abbrev IsUnicode : World → Type 0
-IsUnicode w = AreUnicode w.hub.machine.changes
-
-takes_before : (laws : Laws) (w v : World) (e : edge.Event) → HubTakes w e v → IsUnicode v → IsUnicode w
-takes_before laws w v e (t, steps, is) unicode = unicode_before laws w.hub t e steps (subst IsUnicode is unicode)
-
-comes_before : (laws : Laws) (w v : World) (id : ℕ) (bytes : List ℕ) → ComesInOnePiece w id bytes v → IsUnicode v → IsUnicode w
-comes_before laws w v id bytes (mid, opens, comes) unicode = takes_before laws w mid (edge.opens id) opens (takes_before laws mid v (edge.comes id bytes) comes unicode)
-
-leaves_before : (laws : Laws) (w v : World) (own : Option ClientConnection) → Leaves w own v → IsUnicode v → IsUnicode w
-leaves_before laws w v None is unicode = subst IsUnicode is unicode
-leaves_before laws w v (Some own) takes unicode = takes_before laws (record w { connection = None }) v (edge.goes own.id) takes unicode
-
-unless_before : (laws : Laws) (w v : World) (b : Bool) (e : edge.Event) → TakesUnless b w e v → IsUnicode v → IsUnicode w
-unless_before laws w v true e is unicode = subst IsUnicode is unicode
-unless_before laws w v false e takes unicode = takes_before laws w v e takes unicode
-
-requests_before : (laws : Laws) (w v : World) (id : Option ℕ) (bytes : List ℕ) → Requests w id bytes v → IsUnicode v → IsUnicode w
-requests_before laws w v None bytes is unicode = subst IsUnicode is unicode
-requests_before laws w v (Some id) bytes comes unicode = comes_before laws (record w { requested = w.requested ++ id ∷ [] }) v id bytes comes unicode
-
-sends_before : (laws : Laws) (w v : World) (id : Option ℕ) (bytes : Option (List ℕ)) → Sends w id bytes v → IsUnicode v → IsUnicode w
-sends_before laws w v None bytes is unicode = subst IsUnicode is unicode
-sends_before laws w v (Some id) None is unicode = subst IsUnicode is unicode
-sends_before laws w v (Some id) (Some bytes) (alone, mid, leaves, opens, is) unicode = leaves_before laws w alone w.connection leaves (takes_before laws alone mid (edge.opens id) opens (subst IsUnicode is unicode))
-
-delivers_before : (laws : Laws) (w v : World) (own : ClientConnection) (n : ℕ) (piece : List ℕ) → Delivers w own n piece v → IsUnicode v → IsUnicode w
-delivers_before laws w v own n [] is unicode = subst IsUnicode is unicode
-delivers_before laws w v own n (b ∷ bs) (mid, comes, is) unicode = takes_before laws w mid (edge.comes own.id (b ∷ bs)) comes (subst IsUnicode is unicode)
-
-to_server_before : (laws : Laws) (w v : World) (n : ℕ) (own : Option ClientConnection) → ToServer w n own v → IsUnicode v → IsUnicode w
-to_server_before laws w v n None is unicode = subst IsUnicode is unicode
-to_server_before laws w v n (Some own) delivers unicode = delivers_before laws w v own n (take n own.unsent) delivers unicode
-
-hands_before : (laws : Laws) (task : Task) (w v : World) (own : ClientConnection) (piece : List ℕ) → Hands (wanted_by task) w own piece v → IsUnicode v → IsUnicode w
-hands_before laws task w v own [] is unicode = subst IsUnicode is unicode
-hands_before laws task w v own (b ∷ bs) (d, receives, is) unicode = subst IsUnicode is unicode
-
-to_client_before : (laws : Laws) (task : Task) (w v : World) (n : ℕ) (own : Option ClientConnection) → ToClient (wanted_by task) w n own v → IsUnicode v → IsUnicode w
-to_client_before laws task w v n None is unicode = subst IsUnicode is unicode
-to_client_before laws task w v n (Some own) hands unicode = hands_before laws task w v own (take n (drop own.handed (reply_on w own))) hands unicode
-
-cuts_before : (laws : Laws) (w v : World) (own : Option ClientConnection) → Cuts w own v → IsUnicode v → IsUnicode w
-cuts_before laws w v None is unicode = subst IsUnicode is unicode
-cuts_before laws w v (Some own) leaves unicode = leaves_before laws (record w { client = closed w.client }) v (Some own) leaves unicode
-
-reconciles_before : (laws : Laws) (task : Task) (w v : World) (now : Option Cache) (id : Option ℕ) → Reconciles task w now id v → IsUnicode v → IsUnicode w
-reconciles_before laws task w v None id is unicode = subst IsUnicode is unicode
-reconciles_before laws task w v (Some now) None is unicode = subst IsUnicode is unicode
-reconciles_before laws task w v (Some now) (Some id) comes unicode = comes_before laws w v id _ comes unicode
-
-happens_before : (laws : Laws) (task : Task) (w v : World) (e : WorldEvent) → Happens task w e v → IsUnicode v → IsUnicode w
-happens_before laws task w v (other e) takes unicode = unless_before laws w v (is_by_peer_on w.connection e) e takes unicode
-happens_before laws task w v (request bytes) requests unicode = requests_before laws w v (next_id w.hub.connections) bytes requests unicode
-happens_before laws task w v send sends unicode = sends_before laws w v (next_id w.hub.connections) (due (client_settings task) w.client) sends unicode
-happens_before laws task w v (to_server n) moves unicode = to_server_before laws w v n w.connection moves unicode
-happens_before laws task w v (to_client n) moves unicode = to_client_before laws task w v n w.connection moves unicode
-happens_before laws task w v cut cuts unicode = cuts_before laws w v w.connection cuts unicode
-happens_before laws task w v restart leaves unicode = leaves_before laws (record w { client = restarted w.client }) v w.connection leaves unicode
-happens_before laws task w v reconcile reconciles unicode = reconciles_before laws task w v w.client.cache (next_id w.hub.connections) reconciles unicode
-
-pub steps_before : (laws : Laws) (task : Task) (w v : World) (e : WorldEvent) → Steps task w e v → IsUnicode v → IsUnicode w
-steps_before laws task w v e (mid, happens, is) unicode = happens_before laws task w mid e happens (subst IsUnicode is unicode)
 
 -- ---- the events
 
@@ -108,21 +40,20 @@ module _ (laws : Laws) (task : Task) where
 
   -- other peers
 
-  takes_hold : (m : ℕ) (w v : World) (e : edge.Event) → is_by_peer_on w.connection e ≡ false → RunInvariant task m w → IsUnicode w → HubTakes w e v → RunInvariant task m v
-  takes_hold m w v e isnt is unicode (t, steps, same) =
-      same_holds m (record w { hub = t }) v same (holds_by_others laws task m w e t w.requested is unicode (not_by w.client.is_awaiting_reply w.connection e isnt) steps)
+  takes_hold : (m : ℕ) (w v : World) (e : edge.Event) → is_by_peer_on w.connection e ≡ false → RunInvariant task m w → HubTakes w e v → RunInvariant task m v
+  takes_hold m w v e isnt is (t, steps, same) =
+      same_holds m (record w { hub = t }) v same (holds_by_others laws task m w e t w.requested is (not_by w.client.is_awaiting_reply w.connection e isnt) steps)
 
-  unless_hold : (m : ℕ) (w v : World) (b : Bool) (e : edge.Event) → is_by_peer_on w.connection e ≡ b → RunInvariant task m w → IsUnicode w → TakesUnless b w e v → RunInvariant task m v
-  unless_hold m w v true e by is unicode same = same_holds m w v same is
-  unless_hold m w v false e by is unicode takes = takes_hold m w v e by is unicode takes
+  unless_hold : (m : ℕ) (w v : World) (b : Bool) (e : edge.Event) → is_by_peer_on w.connection e ≡ b → RunInvariant task m w → TakesUnless b w e v → RunInvariant task m v
+  unless_hold m w v true e by is same = same_holds m w v same is
+  unless_hold m w v false e by is takes = takes_hold m w v e by is takes
 
   -- the client's connection is another one
-  comes_hold : (m : ℕ) (w v : World) (id : ℕ) (bytes : List ℕ) → is_new w.hub.connections id ≡ true → RunInvariant task m w → IsUnicode v → ComesInOnePiece w id bytes v → RunInvariant task m v
-  comes_hold m w v id bytes new is unicode (mid, (s, opens, is_mid), (t, comes, same)) =
+  comes_hold : (m : ℕ) (w v : World) (id : ℕ) (bytes : List ℕ) → is_new w.hub.connections id ≡ true → RunInvariant task m w → ComesInOnePiece w id bytes v → RunInvariant task m v
+  comes_hold m w v id bytes new is (mid, (s, opens, is_mid), (t, comes, same)) =
       let apart = new_apart task w.hub.machine m w.client w.client.is_awaiting_reply w.connection w.hub.connections id new is.goes in
-      let mid_unicode : AreUnicode s.machine.changes = unicode_before laws s t (edge.comes id bytes) (subst (λ (x : World). runs.Steps x.hub (edge.comes id bytes) t) is_mid comes) (subst IsUnicode same unicode) in
-      let first : RunInvariant task m (record w { hub = s }) = holds_by_others laws task m w (edge.opens id) s w.requested is (unicode_before laws w.hub s (edge.opens id) opens mid_unicode) apart opens in
-      let second : RunInvariant task m (record w { hub = t }) = holds_by_others laws task m (record w { hub = s }) (edge.comes id bytes) t w.requested first mid_unicode
+      let first : RunInvariant task m (record w { hub = s }) = holds_by_others laws task m w (edge.opens id) s w.requested is apart opens in
+      let second : RunInvariant task m (record w { hub = t }) = holds_by_others laws task m (record w { hub = s }) (edge.comes id bytes) t w.requested first
       (apart_comes w.client.is_awaiting_reply w.connection apart) (subst (λ (x : World). runs.Steps x.hub (edge.comes id bytes) t) is_mid comes) in
       same_holds m (record w { hub = t }) v (same ∙ ap (λ (x : World). record x { hub = t }) is_mid) second
     where
@@ -131,16 +62,16 @@ module _ (laws : Laws) (task : Task) where
       apart_comes true None isnt = tt
       apart_comes true (Some own) isnt = isnt
 
-  requests_hold : (m : ℕ) (w v : World) (id : Option ℕ) (bytes : List ℕ) → next_id w.hub.connections ≡ id → RunInvariant task m w → IsUnicode v → Requests w id bytes v → RunInvariant task m v
-  requests_hold m w v None bytes is_next is unicode same = same_holds m w v same is
-  requests_hold m w v (Some id) bytes is_next is unicode comes =
+  requests_hold : (m : ℕ) (w v : World) (id : Option ℕ) (bytes : List ℕ) → next_id w.hub.connections ≡ id → RunInvariant task m w → Requests w id bytes v → RunInvariant task m v
+  requests_hold m w v None bytes is_next is same = same_holds m w v same is
+  requests_hold m w v (Some id) bytes is_next is comes =
       comes_hold m (record w { requested = w.requested ++ id ∷ [] }) v id bytes (next_is_new w.hub.connections id is_next)
-      (record { begun = is.begun; task_is = is.task_is; machine = is.machine; goes = is.goes }) unicode comes
+      (record { begun = is.begun; task_is = is.task_is; machine = is.machine; goes = is.goes }) comes
 
-  reconciles_hold : (m : ℕ) (w v : World) (now : Option Cache) (id : Option ℕ) → next_id w.hub.connections ≡ id → RunInvariant task m w → IsUnicode v → Reconciles task w now id v → RunInvariant task m v
-  reconciles_hold m w v None id is_next is unicode same = same_holds m w v same is
-  reconciles_hold m w v (Some now) None is_next is unicode same = same_holds m w v same is
-  reconciles_hold m w v (Some now) (Some id) is_next is unicode comes = comes_hold m w v id _ (next_is_new w.hub.connections id is_next) is unicode comes
+  reconciles_hold : (m : ℕ) (w v : World) (now : Option Cache) (id : Option ℕ) → next_id w.hub.connections ≡ id → RunInvariant task m w → Reconciles task w now id v → RunInvariant task m v
+  reconciles_hold m w v None id is_next is same = same_holds m w v same is
+  reconciles_hold m w v (Some now) None is_next is same = same_holds m w v same is
+  reconciles_hold m w v (Some now) (Some id) is_next is comes = comes_hold m w v id _ (next_is_new w.hub.connections id is_next) is comes
 
   -- the client leaves its connection
 
@@ -244,17 +175,17 @@ module _ (laws : Laws) (task : Task) where
         goes = sent_goes task w.hub.machine m laws w.client (is_over w own) (Some own) w.hub.connections there;
       }
 
-  delivers_hold : (m : ℕ) (w v : World) (own : ClientConnection) (n : ℕ) (piece : List ℕ) → take n own.unsent ≡ piece → w.connection ≡ Some own → RunInvariant task m w → IsUnicode w → Delivers w own n piece v → RunInvariant task m v
-  delivers_hold m w v own n [] is_piece has is unicode same = same_holds m w v same is
-  delivers_hold m w v own n (b ∷ bs) is_piece has is unicode (mid, (t, steps, is_mid), same) =
+  delivers_hold : (m : ℕ) (w v : World) (own : ClientConnection) (n : ℕ) (piece : List ℕ) → take n own.unsent ≡ piece → w.connection ≡ Some own → RunInvariant task m w → Delivers w own n piece v → RunInvariant task m v
+  delivers_hold m w v own n [] is_piece has is same = same_holds m w v same is
+  delivers_hold m w v own n (b ∷ bs) is_piece has is (mid, (t, steps, is_mid), same) =
       let rest : ClientConnection = record own { unsent = drop n own.unsent } in
       let x : World = record { hub = t; requested = w.requested; client = w.client; connection = Some rest } in
-      let came : RunInvariant task m x = holds_came laws task m w own n (b ∷ bs) t is_piece has is unicode steps in
+      let came : RunInvariant task m x = holds_came laws task m w own n (b ∷ bs) t is_piece has is steps in
       same_holds m (after_move x rest) v (same ∙ ap (λ (y : World). after_move y rest) is_mid) (moved_holds m x rest refl came)
 
-  to_server_hold : (m : ℕ) (w v : World) (n : ℕ) (own : Option ClientConnection) → w.connection ≡ own → RunInvariant task m w → IsUnicode w → ToServer w n own v → RunInvariant task m v
-  to_server_hold m w v n None has is unicode same = same_holds m w v same is
-  to_server_hold m w v n (Some own) has is unicode delivers = delivers_hold m w v own n (take n own.unsent) refl has is unicode delivers
+  to_server_hold : (m : ℕ) (w v : World) (n : ℕ) (own : Option ClientConnection) → w.connection ≡ own → RunInvariant task m w → ToServer w n own v → RunInvariant task m v
+  to_server_hold m w v n None has is same = same_holds m w v same is
+  to_server_hold m w v n (Some own) has is delivers = delivers_hold m w v own n (take n own.unsent) refl has is delivers
 
   hands_hold : (m : ℕ) (w v : World) (own : ClientConnection) (n : ℕ) (piece : List ℕ) → take n (drop own.handed (reply_on w own)) ≡ piece → w.connection ≡ Some own → RunInvariant task m w
       → Hands (wanted_by task) w own piece v → HoldsOn m v
@@ -275,16 +206,16 @@ module _ (laws : Laws) (task : Task) where
 
   -- ---- one event
 
-  happens_hold : (m : ℕ) (w v : World) (e : WorldEvent) → RunInvariant task m w → IsUnicode v → Happens task w e v → HoldsOn m v
-  happens_hold m w v (other e) is unicode takes =
-      on_as_before m v (unless_hold m w v (is_by_peer_on w.connection e) e refl is (unless_before laws w v (is_by_peer_on w.connection e) e takes unicode) takes)
-  happens_hold m w v (request bytes) is unicode requests = on_as_before m v (requests_hold m w v (next_id w.hub.connections) bytes refl is unicode requests)
-  happens_hold m w v send is unicode sends = on_as_before m v (send_by m w v (next_id w.hub.connections) w.client.is_awaiting_reply refl refl is sends)
-  happens_hold m w v (to_server n) is unicode moves = on_as_before m v (to_server_hold m w v n w.connection refl is (to_server_before laws w v n w.connection moves unicode) moves)
-  happens_hold m w v (to_client n) is unicode moves = to_client_hold m w v n w.connection refl is moves
-  happens_hold m w v cut is unicode cuts = on_as_before m v (cuts_hold m w v w.connection is cuts)
-  happens_hold m w v restart is unicode leaves = on_as_before m v (restarts_hold m w v is leaves)
-  happens_hold m w v reconcile is unicode reconciles = on_as_before m v (reconciles_hold m w v w.client.cache (next_id w.hub.connections) refl is unicode reconciles)
+  happens_hold : (m : ℕ) (w v : World) (e : WorldEvent) → RunInvariant task m w → Happens task w e v → HoldsOn m v
+  happens_hold m w v (other e) is takes =
+      on_as_before m v (unless_hold m w v (is_by_peer_on w.connection e) e refl is takes)
+  happens_hold m w v (request bytes) is requests = on_as_before m v (requests_hold m w v (next_id w.hub.connections) bytes refl is requests)
+  happens_hold m w v send is sends = on_as_before m v (send_by m w v (next_id w.hub.connections) w.client.is_awaiting_reply refl refl is sends)
+  happens_hold m w v (to_server n) is moves = on_as_before m v (to_server_hold m w v n w.connection refl is moves)
+  happens_hold m w v (to_client n) is moves = to_client_hold m w v n w.connection refl is moves
+  happens_hold m w v cut is cuts = on_as_before m v (cuts_hold m w v w.connection is cuts)
+  happens_hold m w v restart is leaves = on_as_before m v (restarts_hold m w v is leaves)
+  happens_hold m w v reconcile is reconciles = on_as_before m v (reconciles_hold m w v w.client.cache (next_id w.hub.connections) refl is reconciles)
 
   taken_served : (h : History) (m : ℕ) (c : Client) (own : ClientConnection) (o : Option Connection) → IsServedOn task h m c own o → IsServedOn task h m (taken c) own o
   taken_served h m c own None is = is
@@ -313,9 +244,9 @@ module _ (laws : Laws) (task : Task) where
   taken_goes h m c true None all is = is
   taken_goes h m c true (Some own) all is = taken_served h m c own (fin.get all own.id) is
 
-  pub steps_hold : (m : ℕ) (w v : World) (e : WorldEvent) → RunInvariant task m w → IsUnicode v → Steps task w e v → HoldsOn m v
-  steps_hold m w v e is unicode (mid, happens, same) =
-      let on : HoldsOn m mid = happens_hold m w mid e is (subst IsUnicode same unicode) happens in (
+  pub steps_hold : (m : ℕ) (w v : World) (e : WorldEvent) → RunInvariant task m w → Steps task w e v → HoldsOn m v
+  steps_hold m w v e is (mid, happens, same) =
+      let on : HoldsOn m mid = happens_hold m w mid e is happens in (
         on.0,
         on.1,
         same_holds on.0 (record mid { client = taken mid.client }) v same

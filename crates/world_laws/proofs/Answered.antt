@@ -5,7 +5,7 @@ use Rattle.std.specs.Prelude.{option_map}
 use Rattle.api_types.specs.TypesFile.{ServedShape}
 use Rattle.history.specs.History.{History, last_revision}
 use Rattle.api_request.specs.Calls.{Answer, Call}
-use Rattle.verbs.specs.Machine.{AreUnicode, IsMachine}
+use Rattle.verbs.specs.Machine.{IsMachine}
 use Rattle.api_request.specs.Reasons.{code_of}
 use Rattle.verbs.specs.Step.{planned}
 use Rattle.watchline.specs.Opening.{WatchFrom}
@@ -43,7 +43,7 @@ pub record IsAnswered (task : Task) (h : History) (m : ℕ) (asks : client.SyncP
   pub represents : ReadInvariant task h c unsent to items d.written d.phase
 
 module _ (laws : Laws) (types : List ServedShape) (task : Task) (h : History) (m last_tick : ℕ) (c : Client) (unsent : List ℕ) (conn : Connection) (now whole : List ℕ) (asked : CallDecision) (is : IsStillTask types task)
-    (is_machine : IsMachine types h) (unicode : AreUnicode h.changes) (begun : 1 ≤ m) (low : m ≤ h.current) (unwritten : conn.written ≡ []) where
+    (is_machine : IsMachine types h) (begun : 1 ≤ m) (low : m ≤ h.current) (unwritten : conn.written ≡ []) where
   -- the task as its type is now
   abbrev task_now : Task
   task_now = with_shape task is.0
@@ -109,12 +109,12 @@ module _ (laws : Laws) (types : List ServedShape) (task : Task) (h : History) (m
       → whole ≡ request_with task (query_at (client_settings task) asks (option_map (λ now. now.revision) cache)) → Answers asks cache asked
   answers_by first cache asks cached able one is_whole =
       by_asked first cache (IsListCall types task_now None) one (subst (λ (l : List ℕ). AsksFor types l (IsListCall types task_now None)) (sym is_whole) (asks_first types task_now is.1))
-      (λ call such. let comes = first_page_comes types task_now h m call is.1 is_machine unicode low such in plain_answer first cache call comes.items 0 comes.unwatched comes.read comes.lists)
+      (λ call such. let comes = first_page_comes types task_now h m call is.1 is_machine low such in plain_answer first cache call comes.items 0 comes.unwatched comes.read comes.lists)
   answers_by (next r token paged_list) cache asks cached able one is_whole =
       by_asked (next r token paged_list) cache (IsNextCall types task_now r paged_list) one
-      (subst (λ (l : List ℕ). AsksFor types l (IsNextCall types task_now r paged_list)) (sym is_whole) (asks_next types task_now h r token paged_list is.1 is_machine unicode able.1 able.2))
+      (subst (λ (l : List ℕ). AsksFor types l (IsNextCall types task_now r paged_list)) (sym is_whole) (asks_next types task_now h r token paged_list is.1 is_machine able.1 able.2))
       (λ call such.
-      let comes = next_page_comes types task_now h m r token paged_list call is.1 is_machine unicode able.0 able.1 able.2 such in
+      let comes = next_page_comes types task_now h m r token paged_list call is.1 is_machine able.0 able.1 able.2 such in
       plain_answer (next r token paged_list) cache call comes.items 0 comes.unwatched comes.read comes.lists)
   answers_by streaming None asks cached able one is_whole = absurd (true≢false (sym able))
   answers_by streaming (Some now) asks cached able one is_whole =

@@ -15,7 +15,7 @@ use Rattle.lists.proofs.Tokens.{query_is_read}
 use Rattle.api_request.specs.declared.method.Method.TheVariants.{Get}
 use Rattle.api_request.specs.Admit.{RequestInfo, admitted, place_admitted}
 use Rattle.api_request.specs.Calls.{Call, Target}
-use Rattle.verbs.specs.Machine.{AreUnicode, IsMachine}
+use Rattle.verbs.specs.Machine.{IsMachine}
 use Rattle.api_validation.specs.Parameters.{read_or_refused}
 use Rattle.wire.specs.Heads.{max_head}
 use Rattle.wire.proofs.Lines.{passes_each}
@@ -119,8 +119,8 @@ asks_first types task is =
     }))
 
 pub asks_next : (types : List ServedShape) (task : Task) (machine : History) (r : ℕ) (token : List ℕ) (paged_list : List Stored) → IsTask types task → IsMachine types machine
-    → AreUnicode machine.changes → r ≤ machine.current → IsPart (server_of task machine) r paged_list (Some token) → AsksFor types (request_with task (list_query (client_settings task) (Some token))) (IsNextCall types task r paged_list)
-asks_next types task machine r token paged_list is is_machine unicode come part =
+    → r ≤ machine.current → IsPart (server_of task machine) r paged_list (Some token) → AsksFor types (request_with task (list_query (client_settings task) (Some token))) (IsNextCall types task r paged_list)
+asks_next types task machine r token paged_list is is_machine come part =
     let behind = token_behind types task is machine is_machine r paged_list token come part in
     let o : Stored = behind.0 in
     let k : Key = key_at task.settings.kind (place_in o) in

@@ -1,9 +1,10 @@
 -- Where the lines of a watch lead: from the client's objects at a revision to those at the revision where the watch then stands.
-use Rattle.std.proofs.Common.{◌≡◌, ℕ, zero, suc, ◌<◌, ◌≤◌, Bool, true, false, cond, List, [], ◌∷◌, length, map, take, sym, ap, subst, ◌∙◌, eqb-true, arith}
+use Rattle.std.proofs.Common.{◌≡◌, ℕ, zero, suc, ◌<◌, ◌≤◌, Bool, true, false, cond, List, [], ◌∷◌, length, map, take, sym, ap, subst, ◌∙◌, eqb-true, arith, refl}
 use Rattle.std.specs.Prelude.{◌==◌, nat_lt}
 use Rattle.std.proofs.lemmas.Bool.{and_parts}
 use Rattle.std.specs.FinMap as fin
 use Rattle.std.specs.List.{AllByRecursion}
+use Rattle.std.specs.Str.{is_utf8}
 use Rattle.api_types.specs.TypesFile.{ServedShape}
 use Rattle.history.specs.History.{History, IsHistory, Key, Object, last_revision}
 use Rattle.history.specs.Page.{is_in_namespace}
@@ -11,11 +12,12 @@ use Rattle.history.specs.Seen.{Added, Deleted, IsNextSeen, Modified, SeenChange,
 use Rattle.history.proofs.Following.{next_seen}
 use Rattle.history.proofs.Wholes.{whole_is}
 use Rattle.indexer.specs.Objects.{Stored}
-use Rattle.decoder.specs.Lines.{Line}
+use Rattle.decoder.specs.Lines.{Line, line_in}
 use Rattle.decoder.specs.Members.{Read}
 use Rattle.decoder.specs.Wanted.{Wanted}
 use Rattle.line_laws.specs.Listed.{IsReadAs}
 use Rattle.line_laws.specs.Shown.{taken}
+use Rattle.line_laws.proofs.Said.{line_by}
 use Rattle.verbs.specs.Machine.{IsMachine}
 use Rattle.reflector.specs.Client.{place_in}
 use Rattle.reflector.specs.FollowsLaws.{IsLineStep, Server, IsWatchStep, IsWatchReply}
@@ -62,7 +64,7 @@ module _ (types : List ServedShape) (task : Task) (machine : History) (is : IsTa
 
   -- ---- lines in turn
 
-  -- what is seen first after p leads on, or its line is too long
+  -- what is seen first after p leads on, or its line is too long, or is no text to a client
   first_reaches : (x : SeenChange) (p q : ℕ) (xs : List SeenChange) (news : List ReplyItem) → IsNextSeen (selection task) machine.changes machine.current p x xs → IsSeenText types (selection task) x
       → IsWatchReply server wanted x.object.revision news q → IsWatchReply server wanted p (cond (nat_lt (length (line_text x)) max_line) (reply.line (line_text x) ∷ news) (malformed ∷ [])) q
   first_reaches x p q xs news next text others = by_length (nat_lt (length (line_text x)) max_line)
@@ -76,10 +78,17 @@ module _ (types : List ServedShape) (task : Task) (machine : History) (is : IsTa
       own : x.key.kind ≡ task.settings.kind
       own = eqb-true x.key.kind task.settings.kind (and_parts (x.key.kind == task.settings.kind) (is_in_namespace task.settings.namespace x.key) (is_own types task is x text)).0
 
-      by_length : (b : Bool) → IsWatchReply server wanted p (cond b (reply.line (line_text x) ∷ news) (malformed ∷ [])) q
-      by_length true =
-          subst (λ (r : Read Line). IsWatchStep server p (line_or_unexpected r) (λ n. IsWatchReply server wanted n news q)) (sym line.reads)
+      Goes : Read Line → Type 0
+      Goes r = IsWatchStep server p (line_or_unexpected r) (λ n. IsWatchReply server wanted n news q)
+
+      by_text : (b : Bool) → is_utf8 (line_text x) ≡ b → Goes (line_in wanted (line_text x))
+      by_text true text =
+          subst Goes (sym (line_by wanted (line_text x) (taken x.kind line.stored) line.says true text))
           (line_goes x.kind x.key x.object line.stored p (λ n. IsWatchReply server wanted n news q) line.is_it own next.above next.within next.applies others)
+      by_text false text = subst Goes (sym (line_by wanted (line_text x) (taken x.kind line.stored) line.says false text)) tt
+
+      by_length : (b : Bool) → IsWatchReply server wanted p (cond b (reply.line (line_text x) ∷ news) (malformed ∷ [])) q
+      by_length true = by_text (is_utf8 (line_text x)) refl
       by_length false = tt
 
   pub lines_lead : (n p : ℕ) (xs : List SeenChange) (last : List ReplyItem) (q : ℕ) → p ≤ machine.current → seen_changes (selection task) machine.changes p machine.current ≡ xs

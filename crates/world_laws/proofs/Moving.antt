@@ -4,7 +4,7 @@ use Rattle.std.proofs.lemmas.Bool.{eqb-true, false_from_ne_true}
 use Rattle.std.specs.FinMap as fin
 use Rattle.std.specs.Prelude.{◌==◌, option_map, unwrap_or, if◌then◌else◌, ⊤}
 use Rattle.history.specs.History.{History}
-use Rattle.verbs.specs.Machine.{AreUnicode, IsMachine}
+use Rattle.verbs.specs.Machine.{IsMachine}
 use Rattle.requests.proofs.Deciding.{asks_more}
 use Rattle.requests.specs.Asks.{Asks, CallDecision}
 use Rattle.requests.specs.Decision.{accepted, refused, undecided}
@@ -81,15 +81,6 @@ goes_grown laws task s t m c false own all grown is =
 goes_grown laws task s t m c true None all grown is = absurd is
 goes_grown laws task s t m c true (Some own) all grown is = served_grown laws task s t m c own (fin.get all own.id) grown is
 
-first_unicode : (xs ys : List _) → AreUnicode (xs ++ ys) → AreUnicode xs
-first_unicode [] ys all = tt
-first_unicode (x ∷ xs) ys all = (all.0, first_unicode xs ys all.1)
-
-pub unicode_before : (laws : Laws) (s t : edge.State) (e : edge.Event) → runs.Steps s e t → AreUnicode t.machine.changes → AreUnicode s.machine.changes
-unicode_before laws s t e steps unicode =
-    let grown = laws.grows s t (runs.happens e) steps in
-    first_unicode s.machine.changes grown.changes.0 (subst AreUnicode grown.changes.1 unicode)
-
 -- what holds of the connection as the event leaves it, with the machine as it was, holds with the machine as it then is
 pub holds_after : (laws : Laws) (task : Task) (m n : ℕ) (w : World) (e : edge.Event) (t : edge.State) (c : Client) (own : Option ClientConnection) (requested : List ℕ) → RunInvariant task m w → m ≤ n
     → runs.Steps w.hub e t → Goes task w.hub.machine n c c.is_awaiting_reply own t.connections → RunInvariant task n (record { hub = t; requested = requested; client = c; connection = own })
@@ -127,41 +118,41 @@ new_apart task h m c true (Some own) all id new is = false_from_ne_true (own.id 
     known (Some conn) none is = absurd cc
 
 module _ (laws : Laws) (task : Task) where
-  turn_comes : (s : edge.State) (w : _) (turn : _) → IsStillTask s.types task → IsMachine s.types s.machine → AreUnicode s.machine.changes → IsTurn s w turn → IsTaskWatch task w → w.cursor.position ≤ s.machine.current
+  turn_comes : (s : edge.State) (w : _) (turn : _) → IsStillTask s.types task → IsMachine s.types s.machine → IsTurn s w turn → IsTaskWatch task w → w.cursor.position ≤ s.machine.current
       → TurnComes task s.machine w.cursor.position turn
-  turn_comes s w turn (shape, is_task) is_machine unicode is_turn own come = turn_unshaped task shape s.machine w.cursor.position turn (go is_turn)
+  turn_comes s w turn (shape, is_task) is_machine is_turn own come = turn_unshaped task shape s.machine w.cursor.position turn (go is_turn)
     where
       go : IsTurn s w turn → TurnComes (with_shape task shape) s.machine w.cursor.position turn
       go (inl (max, is)) =
           subst (TurnComes (with_shape task shape) s.machine w.cursor.position) (sym is)
-          (pump_comes s.types (with_shape task shape) s.machine max w is_task is_machine unicode (watch_shaped task shape w own) come)
+          (pump_comes s.types (with_shape task shape) s.machine max w is_task is_machine (watch_shaped task shape w own) come)
       go (inr (ms, is)) =
           subst (TurnComes (with_shape task shape) s.machine w.cursor.position) (sym is)
           (tick_comes s.types (with_shape task shape) s.machine ms w is_task is_machine (watch_shaped task shape w own) come)
 
   served_by_others : (m : ℕ) (s t : edge.State) (e : edge.Event) (c : Client) (own : ClientConnection) (o : Option Connection) → fin.get s.connections own.id ≡ o → IsStillTask s.types task → IsMachine s.types s.machine
-      → AreUnicode s.machine.changes → is_by_peer_on (Some own) e ≡ false → runs.Steps s e t → IsServedOn task s.machine m c own o → IsServedOn task s.machine m c own (fin.get t.connections own.id)
-  served_by_others m s t e c own None got task_is is_machine unicode isnt steps is = absurd is
-  served_by_others m s t e c own (Some conn) got task_is is_machine unicode isnt steps is = go (stays_or_turns s t own e conn isnt got steps)
+      → is_by_peer_on (Some own) e ≡ false → runs.Steps s e t → IsServedOn task s.machine m c own o → IsServedOn task s.machine m c own (fin.get t.connections own.id)
+  served_by_others m s t e c own None got task_is is_machine isnt steps is = absurd is
+  served_by_others m s t e c own (Some conn) got task_is is_machine isnt steps is = go (stays_or_turns s t own e conn isnt got steps)
     where
       go : StaysOrTurns s conn (fin.get t.connections own.id) → IsServedOn task s.machine m c own (fin.get t.connections own.id)
       go (inl stays) = subst (IsServedOn task s.machine m c own) (sym stays) is
       go (inr has) =
           subst (IsServedOn task s.machine m c own) (sym has.is)
-          (served_turn laws task s.machine m c own conn has.w has.turn has.watches (turn_comes s has.w has.turn task_is is_machine unicode has.is_turn) is)
+          (served_turn laws task s.machine m c own conn has.w has.turn has.watches (turn_comes s has.w has.turn task_is is_machine has.is_turn) is)
 
-  goes_by_others : (m : ℕ) (s t : edge.State) (e : edge.Event) (c : Client) (b : Bool) (own : Option ClientConnection) → IsStillTask s.types task → IsMachine s.types s.machine → AreUnicode s.machine.changes → NotBy b own e
+  goes_by_others : (m : ℕ) (s t : edge.State) (e : edge.Event) (c : Client) (b : Bool) (own : Option ClientConnection) → IsStillTask s.types task → IsMachine s.types s.machine → NotBy b own e
       → runs.Steps s e t → Goes task s.machine m c b own s.connections → Goes task s.machine m c b own t.connections
-  goes_by_others m s t e c false own task_is is_machine unicode isnt steps is = is
-  goes_by_others m s t e c true None task_is is_machine unicode isnt steps is = absurd is
-  goes_by_others m s t e c true (Some own) task_is is_machine unicode isnt steps is =
-      served_by_others m s t e c own (fin.get s.connections own.id) refl task_is is_machine unicode isnt steps is
+  goes_by_others m s t e c false own task_is is_machine isnt steps is = is
+  goes_by_others m s t e c true None task_is is_machine isnt steps is = absurd is
+  goes_by_others m s t e c true (Some own) task_is is_machine isnt steps is =
+      served_by_others m s t e c own (fin.get s.connections own.id) refl task_is is_machine isnt steps is
 
-  pub holds_by_others : (m : ℕ) (w : World) (e : edge.Event) (t : edge.State) (requested : List ℕ) → RunInvariant task m w → AreUnicode w.hub.machine.changes → NotBy w.client.is_awaiting_reply w.connection e
+  pub holds_by_others : (m : ℕ) (w : World) (e : edge.Event) (t : edge.State) (requested : List ℕ) → RunInvariant task m w → NotBy w.client.is_awaiting_reply w.connection e
       → runs.Steps w.hub e t → RunInvariant task m (record { hub = t; requested = requested; client = w.client; connection = w.connection })
-  holds_by_others m w e t requested is unicode isnt steps =
+  holds_by_others m w e t requested is isnt steps =
       holds_after laws task m m w e t w.client w.connection requested is (omega arith) steps
-      (goes_by_others m w.hub t e w.client w.client.is_awaiting_reply w.connection is.task_is is.machine unicode isnt steps is.goes)
+      (goes_by_others m w.hub t e w.client w.client.is_awaiting_reply w.connection is.task_is is.machine isnt steps is.goes)
 
   -- ---- a piece of the request comes to the server
 
@@ -190,9 +181,9 @@ module _ (laws : Laws) (task : Task) where
       append_assoc prefix piece (drop n unsent) ∙ ap (λ (l : List ℕ). prefix ++ l) (ap (λ (l : List ℕ). l ++ drop n unsent) (sym is) ∙ take-append-drop n unsent)
 
   served_waiting : (m : ℕ) (s : edge.State) (c : Client) (own : ClientConnection) (conn : Connection) (n : ℕ) (piece prefix : List ℕ) (asked : CallDecision) → take n own.unsent ≡ piece → IsStillTask s.types task → IsMachine s.types s.machine
-      → AreUnicode s.machine.changes → 1 ≤ m → conn.phase ≡ waiting prefix → Asks s.types (prefix ++ piece) asked → IsServed task s.machine m c own conn
+      → 1 ≤ m → conn.phase ≡ waiting prefix → Asks s.types (prefix ++ piece) asked → IsServed task s.machine m c own conn
       → IsServed task s.machine m c (record own { unsent = drop n own.unsent }) (edge.connection_after s.types s.machine s.last_tick conn (prefix ++ piece) asked)
-  served_waiting m s c own conn n piece prefix asked cut task_is is_machine unicode begun represents asks is =
+  served_waiting m s c own conn n piece prefix asked cut task_is is_machine begun represents asks is =
       let both : (conn.written ≡ []) × (prefix ++ own.unsent ≡ request_of (client_settings task) c) = subst (ReadInvariant task s.machine c own.unsent is.to (is.sent ++ is.coming) conn.written) represents is.represents in
       by_asked asked asks both
     where
@@ -202,7 +193,7 @@ module _ (laws : Laws) (task : Task) where
           let whole = asks_more s.types (prefix ++ piece) (drop n own.unsent) asked asks decides in
           let low : m ≤ s.machine.current = is.follows.low in
           served_answered m s.machine c own conn (edge.connection_after s.types s.machine s.last_tick conn (prefix ++ piece) asked) n is both.0
-          (answers laws s.types task s.machine m s.last_tick c (drop n own.unsent) conn (prefix ++ piece) ((prefix ++ piece) ++ drop n own.unsent) asked task_is is_machine unicode begun low both.0 is.coming is.to is.follows whole
+          (answers laws s.types task s.machine m s.last_tick c (drop n own.unsent) conn (prefix ++ piece) ((prefix ++ piece) ++ drop n own.unsent) asked task_is is_machine begun low both.0 is.coming is.to is.follows whole
           (still_whole prefix piece own.unsent n cut ∙ both.1))
 
       by_asked : (asked : CallDecision) → Asks s.types (prefix ++ piece) asked → (conn.written ≡ []) × (prefix ++ own.unsent ≡ request_of (client_settings task) c)
@@ -239,38 +230,38 @@ module _ (laws : Laws) (task : Task) where
       }
 
   came_served : (m : ℕ) (s t : edge.State) (c : Client) (own : ClientConnection) (conn : Connection) (n : ℕ) (piece : List ℕ) (st : Phase) → conn.phase ≡ st → take n own.unsent ≡ piece → IsStillTask s.types task
-      → IsMachine s.types s.machine → AreUnicode s.machine.changes → 1 ≤ m → CameOn s t own.id conn piece st → IsServed task s.machine m c own conn
+      → IsMachine s.types s.machine → 1 ≤ m → CameOn s t own.id conn piece st → IsServed task s.machine m c own conn
       → IsServedOn task s.machine m c (record own { unsent = drop n own.unsent }) (fin.get t.connections own.id)
-  came_served m s t c own conn n piece (waiting prefix) represents cut task_is is_machine unicode begun (asked, asks, got) is =
-      subst (IsServedOn task s.machine m c (record own { unsent = drop n own.unsent })) (sym got) (served_waiting m s c own conn n piece prefix asked cut task_is is_machine unicode begun represents asks is)
-  came_served m s t c own conn n piece (watching w) represents cut task_is is_machine unicode begun got is =
+  came_served m s t c own conn n piece (waiting prefix) represents cut task_is is_machine begun (asked, asks, got) is =
+      subst (IsServedOn task s.machine m c (record own { unsent = drop n own.unsent })) (sym got) (served_waiting m s c own conn n piece prefix asked cut task_is is_machine begun represents asks is)
+  came_served m s t c own conn n piece (watching w) represents cut task_is is_machine begun got is =
       subst (IsServedOn task s.machine m c (record own { unsent = drop n own.unsent })) (sym got) (served_idle m s.machine c own conn n (watching w) represents (λ to items written is. watching_idle to items written w is) is)
     where
       watching_idle : (to : ℕ) (items : List ReplyItem) (written : List ℕ) (w : _) → ReadInvariant task s.machine c own.unsent to items written (watching w) → ReadInvariant task s.machine c (drop n own.unsent) to items written (watching w)
       watching_idle to items written w is = is
-  came_served m s t c own conn n piece ended represents cut task_is is_machine unicode begun got is =
+  came_served m s t c own conn n piece ended represents cut task_is is_machine begun got is =
       subst (IsServedOn task s.machine m c (record own { unsent = drop n own.unsent })) (sym got) (served_idle m s.machine c own conn n ended represents (λ to items written is. tt) is)
-  came_served m s t c own conn n piece (gone had_ended) represents cut task_is is_machine unicode begun got is =
+  came_served m s t c own conn n piece (gone had_ended) represents cut task_is is_machine begun got is =
       subst (IsServedOn task s.machine m c (record own { unsent = drop n own.unsent })) (sym got) (served_idle m s.machine c own conn n (gone had_ended) represents (λ to items written is. tt) is)
 
   came_on : (m : ℕ) (s t : edge.State) (c : Client) (own : ClientConnection) (o : Option Connection) (n : ℕ) (piece : List ℕ) → fin.get s.connections own.id ≡ o → take n own.unsent ≡ piece → IsStillTask s.types task
-      → IsMachine s.types s.machine → AreUnicode s.machine.changes → 1 ≤ m → runs.Steps s (edge.comes own.id piece) t → IsServedOn task s.machine m c own o
+      → IsMachine s.types s.machine → 1 ≤ m → runs.Steps s (edge.comes own.id piece) t → IsServedOn task s.machine m c own o
       → IsServedOn task s.machine m c (record own { unsent = drop n own.unsent }) (fin.get t.connections own.id)
-  came_on m s t c own None n piece got cut task_is is_machine unicode begun steps is = absurd is
-  came_on m s t c own (Some conn) n piece got cut task_is is_machine unicode begun steps is =
-      came_served m s t c own conn n piece conn.phase refl cut task_is is_machine unicode begun (came s t own.id conn piece got steps) is
+  came_on m s t c own None n piece got cut task_is is_machine begun steps is = absurd is
+  came_on m s t c own (Some conn) n piece got cut task_is is_machine begun steps is =
+      came_served m s t c own conn n piece conn.phase refl cut task_is is_machine begun (came s t own.id conn piece got steps) is
 
-  came_goes : (m : ℕ) (s t : edge.State) (c : Client) (b : Bool) (own : ClientConnection) (n : ℕ) (piece : List ℕ) → take n own.unsent ≡ piece → IsStillTask s.types task → IsMachine s.types s.machine → AreUnicode s.machine.changes
+  came_goes : (m : ℕ) (s t : edge.State) (c : Client) (b : Bool) (own : ClientConnection) (n : ℕ) (piece : List ℕ) → take n own.unsent ≡ piece → IsStillTask s.types task → IsMachine s.types s.machine
       → 1 ≤ m → runs.Steps s (edge.comes own.id piece) t → Goes task s.machine m c b (Some own) s.connections → Goes task s.machine m c b (Some (record own { unsent = drop n own.unsent })) t.connections
-  came_goes m s t c false own n piece cut task_is is_machine unicode begun steps is = is
-  came_goes m s t c true own n piece cut task_is is_machine unicode begun steps is = came_on m s t c own (fin.get s.connections own.id) n piece refl cut task_is is_machine unicode begun steps is
+  came_goes m s t c false own n piece cut task_is is_machine begun steps is = is
+  came_goes m s t c true own n piece cut task_is is_machine begun steps is = came_on m s t c own (fin.get s.connections own.id) n piece refl cut task_is is_machine begun steps is
 
-  pub holds_came : (m : ℕ) (w : World) (own : ClientConnection) (n : ℕ) (piece : List ℕ) (t : edge.State) → take n own.unsent ≡ piece → w.connection ≡ Some own → RunInvariant task m w → AreUnicode w.hub.machine.changes
+  pub holds_came : (m : ℕ) (w : World) (own : ClientConnection) (n : ℕ) (piece : List ℕ) (t : edge.State) → take n own.unsent ≡ piece → w.connection ≡ Some own → RunInvariant task m w
       → runs.Steps w.hub (edge.comes own.id piece) t → RunInvariant task m (record { hub = t; requested = w.requested; client = w.client; connection = Some (record own { unsent = drop n own.unsent }) })
-  holds_came m w own n piece t cut has is unicode steps =
+  holds_came m w own n piece t cut has is steps =
       let there : Goes task w.hub.machine m w.client w.client.is_awaiting_reply (Some own) w.hub.connections = subst (λ (o : Option ClientConnection). Goes task w.hub.machine m w.client w.client.is_awaiting_reply o w.hub.connections) has is.goes in
       holds_after laws task m m w (edge.comes own.id piece) t w.client (Some (record own { unsent = drop n own.unsent })) w.requested is (omega arith) steps
-      (came_goes m w.hub t w.client w.client.is_awaiting_reply own n piece cut is.task_is is.machine unicode is.begun steps there)
+      (came_goes m w.hub t w.client w.client.is_awaiting_reply own n piece cut is.task_is is.machine is.begun steps there)
 
 -- ---- a piece of the reply comes to the client
 

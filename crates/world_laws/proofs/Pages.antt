@@ -5,6 +5,7 @@ use Rattle.std.specs.Prelude.{nat_le, nat_lt}
 use Rattle.std.specs.Ordering.{is_lt}
 use Rattle.std.specs.FinMap as fin
 use Rattle.std.specs.List.{AllByRecursion, last_or}
+use Rattle.std.specs.Str.{is_utf8}
 use Rattle.api_types.specs.TypesFile.{ServedShape}
 use Rattle.history.specs.History.{History, IsHistory, Key, Object, key_cmp, last_revision, state_at}
 use Rattle.history.specs.Seen.{IsPrefix, IsLimit, SeenPage, last_key, left_after, limited, past, seen_page}
@@ -31,8 +32,9 @@ use Rattle.decoder.specs.Wanted.{Wanted}
 use Rattle.reflector.specs.Client.{place_in}
 use Rattle.reflector.specs.FollowsLaws.{IsPart, IsListStep, IsListReply, Server}
 use Rattle.reflector.specs.Items.{begun, page_or_unexpected, unexpected}
-use Rattle.line_laws.specs.Listed.{AreReadAs, IsReadAsPage, page_with}
-use Rattle.line_laws.proofs.Kept.{leaf_value_read}
+use Rattle.line_laws.specs.Listed.{AreReadAs, page_with}
+use Rattle.line_laws.proofs.Kept.{leaf_value_says}
+use Rattle.line_laws.proofs.Pages.{SaysPage, page_by}
 use Rattle.line_laws.proofs.SeenBodies.{all_taken}
 use Rattle.api_request.specs.Calls.{Call}
 use Rattle.api_request.specs.Calls as calls
@@ -49,7 +51,7 @@ use Rattle.wire_laws.proofs.AnyLengths.{IsSentOf, any_reply_read}
 use Rattle.wire_laws.proofs.PrintedReplies.{Reader}
 use Rattle.wire_laws.proofs.TurnTexts.{coming_unicode}
 use Rattle.wire_laws.proofs.Written.{status_is}
-use Rattle.world_laws.specs.ListCalls.{IsListCall, IsNextCall, page_values}
+use Rattle.world_laws.specs.ListCalls.{IsListCall, IsNextCall, IsReadAsPageIfUtf8, page_values}
 use Rattle.world_laws.specs.Reports.{IsStateAt}
 use Rattle.world_laws.specs.Tasks.{IsTask, Task, selected_at, selection, wanted_by}
 use Rattle.world_laws.proofs.ListTexts.{HasKeyTexts, list_utf8}
@@ -77,17 +79,29 @@ module _ (server : Server) (wanted : Wanted) (m : ℕ) (paged_list : List Stored
   refused_goes code body refused items (inr (k, short, same)) =
       subst (IsListReply server wanted m paged_list) (sym same) (subst (λ t. IsListStep server m paged_list (cond t begun unexpected) (IsListReply server wanted m paged_list (whole (take k body) ∷ end ∷ []))) (sym refused) tt)
 
-  answered_goes : (body : List ℕ) (p : Page) → EndsInBrace body → page_in wanted body ≡ Ok p → (m ≤ p.revision) × (p.revision ≤ server.top) × IsPart server p.revision (paged_list ++ p.objects) p.token → ReplyGoes 200 body
-  answered_goes body p ends read goes items (inl same) = subst (IsListReply server wanted m paged_list) (sym same) (by_length (nat_le (length body) max_body))
-    where
-      by_length : (b : Bool) → IsListReply server wanted m paged_list (cond b (head 200 ∷ whole body ∷ end ∷ []) (malformed ∷ []))
-      by_length true = subst (λ (r : Read Page). IsListStep server m paged_list (page_or_unexpected r) (IsListReply server wanted m paged_list (end ∷ []))) (sym read) goes
-      by_length false = tt
-  answered_goes body p ends read goes items (inr (k, short, same)) = subst (IsListReply server wanted m paged_list) (sym same) (by_prefix (page_in wanted (take k body)) refl)
-    where
-      by_prefix : (r : Read Page) → page_in wanted (take k body) ≡ r → IsListStep server m paged_list (page_or_unexpected r) (IsListReply server wanted m paged_list (end ∷ []))
-      by_prefix (Ok q) is = absurd (no_page_in_prefix wanted body k p q ends short read is)
-      by_prefix (Err e) is = tt
+  -- an answer is the page, or no text to a client
+  module _ (body : List ℕ) (r : ℕ) (page : SeenPage) (ends : EndsInBrace body) (says : SaysPage wanted body r page) where
+    abbrev StepGoes : Read Page → Type 0
+    StepGoes read = IsListStep server m paged_list (page_or_unexpected read) (IsListReply server wanted m paged_list (end ∷ []))
+
+    abbrev p : Page
+    p = page_with r page.next says.objects
+
+    answered_goes : (m ≤ r) × (r ≤ server.top) × IsPart server r (paged_list ++ says.objects) p.token → ReplyGoes 200 body
+    answered_goes goes items (inl same) = subst (IsListReply server wanted m paged_list) (sym same) (by_length (nat_le (length body) max_body))
+      where
+        by_text : (b : Bool) → is_utf8 body ≡ b → StepGoes (page_in wanted body)
+        by_text true text = subst StepGoes (sym (page_by wanted body r page says true text)) goes
+        by_text false text = subst StepGoes (sym (page_by wanted body r page says false text)) tt
+
+        by_length : (b : Bool) → IsListReply server wanted m paged_list (cond b (head 200 ∷ whole body ∷ end ∷ []) (malformed ∷ []))
+        by_length true = by_text (is_utf8 body) refl
+        by_length false = tt
+    answered_goes goes items (inr (k, short, same)) = subst (IsListReply server wanted m paged_list) (sym same) (by_prefix (page_in wanted (take k body)) refl)
+      where
+        by_prefix : (read : Read Page) → page_in wanted (take k body) ≡ read → StepGoes read
+        by_prefix (Ok q) is = absurd (no_page_in_prefix wanted body k says.value p q ends short says.is_json says.is_page is)
+        by_prefix (Err e) is = tt
 
 -- ---- numbers and keys
 
@@ -188,11 +202,11 @@ module _ (types : List ServedShape) (task : Task) (is_task : IsTask types task) 
     within : r ≤ max_version
     within = let top : machine.current ≤ last_revision = history.high in omega (arith, high, top)
 
-    page_read : AreUnicode machine.changes → IsReadAsPage wanted (list_text of r page) r page
-    page_read unicode =
-        leaf_value_read wanted of (wants types task is_task) (page_values task token) r (state_at machine.changes r)
-        (objects_kept types task is_task machine machine_is r) within
-        (list_utf8 of r page (version_utf8 types task is_task) (type_utf8 types task is_task) within (key_texts page.next named_next) (all_shown (λ e. IsUtf8 e.1.body) (unicode_at unicode r)))
+    page_says : SaysPage wanted (list_text of r page) r page
+    page_says = leaf_value_says wanted of (wants types task is_task) (page_values task token) r (state_at machine.changes r) (objects_kept types task is_task machine machine_is r) within
+
+    page_text : AreUnicode machine.changes → IsUtf8 (list_text of r page)
+    page_text unicode = list_utf8 of r page (version_utf8 types task is_task) (type_utf8 types task is_task) within (key_texts page.next named_next) (all_shown (λ e. IsUtf8 e.1.body) (unicode_at unicode r))
 
   -- behind what is set aside, it is a prefix of the list
   record GoesOn (m : ℕ) (paged_list : List Stored) (token : Option Token) (r : ℕ) : Type 0 where
@@ -201,15 +215,14 @@ module _ (types : List ServedShape) (task : Task) (is_task : IsTask types task) 
     read : AreReadAs wanted before paged_list
     prefix : IsPrefix (fin.entries (selected_at task machine r)) (before ++ (page_at token r).found) (page_at token r).next
 
-  page_goes : AreUnicode machine.changes → (m : ℕ) (paged_list : List Stored) (token : Option Token) (r : ℕ) → GoesOn m paged_list token r → r ≤ machine.current
-      → ReplyGoes server wanted m paged_list 200 (list_text of r (page_at token r))
-  page_goes unicode m paged_list token r goes high =
+  page_goes : (m : ℕ) (paged_list : List Stored) (token : Option Token) (r : ℕ) → GoesOn m paged_list token r → r ≤ machine.current → ReplyGoes server wanted m paged_list 200 (list_text of r (page_at token r))
+  page_goes m paged_list token r goes high =
       let page : SeenPage = page_at token r in
-      let read = page_read token r high unicode in
+      let says = page_says token r high in
       let last : IsLast page.found page.next = is_last_by page.found page.next (is_last token r high) in
-      let part = prefix_is_part task machine task.settings.kind r (read_at r) (goes.before ++ page.found) page.next (paged_list ++ read.0) goes.prefix (later_last goes.before page.found page.next last)
-      (read_both wanted goes.before page.found paged_list read.0 goes.read read.2) in
-      answered_goes server wanted m paged_list (list_text of r page) (page_with r page.next read.0) (list_ends of r page) read.1 (goes.low, high, part)
+      let part = prefix_is_part task machine task.settings.kind r (read_at r) (goes.before ++ page.found) page.next (paged_list ++ says.objects) goes.prefix (later_last goes.before page.found page.next last)
+      (read_both wanted goes.before page.found paged_list says.objects goes.read says.read_as) in
+      answered_goes server wanted m paged_list (list_text of r page) r page (list_ends of r page) says (goes.low, high, part)
 
   -- ---- the first page, and one behind a token
 
@@ -270,15 +283,23 @@ module _ (types : List ServedShape) (task : Task) (is_task : IsTask types task) 
         page_planned types machine call task.t values asks.lists r at
         ∙ ap (λ c. page_plan (list_text c r (page_of c values (state_at machine.changes r)))) same_collection
 
-    pub answer_read : AreUnicode machine.changes → (r : ℕ) → revision_of machine.current machine.compacted values ≡ Ok r → r ≤ machine.current → IsReadAsPage wanted (planned types machine call).answer.body r (page_at token r)
-    answer_read unicode r at high = subst (λ (plan : calls.Plan). IsReadAsPage wanted plan.answer.body r (page_at token r)) (sym (paged r at)) (page_read token r high unicode)
+    pub answer_read : (r : ℕ) → revision_of machine.current machine.compacted values ≡ Ok r → r ≤ machine.current → IsReadAsPageIfUtf8 wanted (planned types machine call).answer.body r (page_at token r)
+    answer_read r at high =
+        let text : List ℕ = list_text of r (page_at token r) in
+        let says = page_says token r high in
+        subst (λ (plan : calls.Plan). IsReadAsPageIfUtf8 wanted plan.answer.body r (page_at token r)) (sym (paged r at)) (says.objects, page_by wanted text r (page_at token r) says (is_utf8 text) refl, says.read_as)
+
+    pub answer_utf8 : AreUnicode machine.changes → (r : ℕ) → revision_of machine.current machine.compacted values ≡ Ok r → IsUtf8 (planned types machine call).answer.body
+    answer_utf8 unicode r at =
+        let high : r ≤ machine.current = (revision_between machine.current machine.compacted history.low values r (sym at)).1 in
+        subst (λ (plan : calls.Plan). IsUtf8 plan.answer.body) (sym (paged r at)) (page_text token r high unicode)
 
     -- it opens no watch, and what is told of it, whatever it is, goes on behind what is set aside
     abbrev AnswerGoes : ℕ → List Stored → calls.Plan → Type 0
     AnswerGoes m paged_list plan = (plan.answer.watch ≡ None) × ReplyGoes server wanted m paged_list plan.answer.status plan.answer.body
 
-    answer_goes : AreUnicode machine.changes → (m : ℕ) (paged_list : List Stored) → ((r : ℕ) → revision_of machine.current machine.compacted values ≡ Ok r → GoesOn m paged_list token r) → AnswerGoes m paged_list (planned types machine call)
-    answer_goes unicode m paged_list goes = by_revision (revision_of machine.current machine.compacted values) refl
+    answer_goes : (m : ℕ) (paged_list : List Stored) → ((r : ℕ) → revision_of machine.current machine.compacted values ≡ Ok r → GoesOn m paged_list token r) → AnswerGoes m paged_list (planned types machine call)
+    answer_goes m paged_list goes = by_revision (revision_of machine.current machine.compacted values) refl
       where
         refused_by : (refusal : Refusal) → ((refused (list_refusal refusal)).answer.status == 200) ≡ false → revision_of machine.current machine.compacted values ≡ Err refusal → AnswerGoes m paged_list (planned types machine call)
         refused_by refusal other at =
@@ -288,26 +309,26 @@ module _ (types : List ServedShape) (task : Task) (is_task : IsTask types task) 
         by_revision : (answer : Result ℕ Refusal) → revision_of machine.current machine.compacted values ≡ answer → AnswerGoes m paged_list (planned types machine call)
         by_revision (Ok r) at =
             let high : r ≤ machine.current = (revision_between machine.current machine.compacted history.low values r (sym at)).1 in
-            subst (AnswerGoes m paged_list) (sym (paged r at)) (refl, page_goes unicode m paged_list token r (goes r at) high)
+            subst (AnswerGoes m paged_list) (sym (paged r at)) (refl, page_goes m paged_list token r (goes r at) high)
         by_revision (Err (Expired n compacted)) at = refused_by (Expired n compacted) refl at
         by_revision (Err (TooLarge n current)) at = refused_by (TooLarge n current) refl at
 
   -- ---- what comes
 
   -- of a call that asks for the first page
-  pub first_comes : AreUnicode machine.changes → (m : ℕ) (call : Call) → m ≤ machine.current → IsListCall types task None call
+  pub first_comes : (m : ℕ) (call : Call) → m ≤ machine.current → IsListCall types task None call
       → ((planned types machine call).answer.watch ≡ None) × ReplyGoes server wanted m [] (planned types machine call).answer.status (planned types machine call).answer.body
-  first_comes unicode m call low asks = answer_goes None call asks unicode m [] (λ r at. first_goes m r low at)
+  first_comes m call low asks = answer_goes None call asks m [] (λ r at. first_goes m r low at)
 
   -- of one that asks for the page behind a token
-  pub next_comes : AreUnicode machine.changes → (m r : ℕ) (paged_list : List Stored) (token : List ℕ) (call : Call) → m ≤ r → IsPart server r paged_list (Some token) → IsNextCall types task r paged_list call
+  pub next_comes : (m r : ℕ) (paged_list : List Stored) (token : List ℕ) (call : Call) → m ≤ r → IsPart server r paged_list (Some token) → IsNextCall types task r paged_list call
       → ((planned types machine call).answer.watch ≡ None) × ReplyGoes server wanted m paged_list (planned types machine call).answer.status (planned types machine call).answer.body
-  next_comes unicode m r paged_list token call low part_is next =
+  next_comes m r paged_list token call low part_is next =
       let last = so_far r paged_list token part_is in
       let own : next.0 ≡ last.object = same_some next.0 last.object (sym next.1 ∙ last.is_object) in
       let asks : IsListCall types task (Some (token_after r last.last)) call =
       subst (λ (p : Place). IsListCall types task (Some (record { revision = r; namespace = p.0; name = p.1 })) call) (ap place_in own ∙ last.same_place) next.2 in
-      answer_goes (Some (token_after r last.last)) call asks unicode m paged_list (λ q at. next_goes r paged_list token part_is m q low at)
+      answer_goes (Some (token_after r last.last)) call asks m paged_list (λ q at. next_goes r paged_list token part_is m q low at)
 
   -- such a token is that of the last object, and can be read
   pub token_behind : (r : ℕ) (paged_list : List Stored) (token : List ℕ) → r ≤ machine.current → IsPart server r paged_list (Some token)
@@ -323,16 +344,16 @@ module _ (types : List ServedShape) (task : Task) (is_task : IsTask types task) 
 
   -- ---- what is read of a page
 
-  pub first_read : AreUnicode machine.changes → (call : Call) → IsListCall types task None call
-      → IsReadAsPage wanted (planned types machine call).answer.body machine.current (seen_page (selection task) None (page_limit task.settings.page) (state_at machine.changes machine.current))
-  first_read unicode call asks = answer_read None call asks unicode machine.current (ap (λ b. cond b (Ok machine.current) (Err (TooLarge 0 machine.current))) (le-leb 0 machine.current zero-le)) (omega arith)
+  pub first_read : (call : Call) → IsListCall types task None call
+      → IsReadAsPageIfUtf8 wanted (planned types machine call).answer.body machine.current (seen_page (selection task) None (page_limit task.settings.page) (state_at machine.changes machine.current))
+  first_read call asks = answer_read None call asks machine.current (ap (λ b. cond b (Ok machine.current) (Err (TooLarge 0 machine.current))) (le-leb 0 machine.current zero-le)) (omega arith)
 
-  pub next_read : AreUnicode machine.changes → (r : ℕ) (k : Key) (call : Call) → k.kind ≡ task.settings.kind → machine.compacted ≤ r → r ≤ machine.current → IsListCall types task (Some (token_after r k)) call
-      → IsReadAsPage wanted (planned types machine call).answer.body r (seen_page (selection task) (Some k) (page_limit task.settings.page) (state_at machine.changes r))
-  next_read unicode r k call own low high asks =
+  pub next_read : (r : ℕ) (k : Key) (call : Call) → k.kind ≡ task.settings.kind → machine.compacted ≤ r → r ≤ machine.current → IsListCall types task (Some (token_after r k)) call
+      → IsReadAsPageIfUtf8 wanted (planned types machine call).answer.body r (seen_page (selection task) (Some k) (page_limit task.settings.page) (state_at machine.changes r))
+  next_read r k call own low high asks =
       let exact : revision_by machine.current machine.compacted (exactly r) ≡ Ok r = rw (le-ltb r machine.compacted low, le-leb r machine.current high) refl in
-      subst (λ q. IsReadAsPage wanted (planned types machine call).answer.body r (seen_page (selection task) (Some q) (page_limit task.settings.page) (state_at machine.changes r))) (sym (same_key task.settings.kind r k own))
-      (answer_read (Some (token_after r k)) call asks unicode r exact high)
+      subst (λ q. IsReadAsPageIfUtf8 wanted (planned types machine call).answer.body r (seen_page (selection task) (Some q) (page_limit task.settings.page) (state_at machine.changes r))) (sym (same_key task.settings.kind r k own))
+      (answer_read (Some (token_after r k)) call asks r exact high)
 
 -- ---- what the joined run takes of it
 
@@ -354,14 +375,14 @@ comes types task machine m paged_list call goes =
     let sent = any_reply_read reader answer.status None answer.body (status_is types machine call) (tt {0}) in
     record { unwatched = goes.0; items = sent.0; read = sent.1; lists = goes.1 sent.0 sent.2 }
 
-pub first_page_comes : (types : List ServedShape) (task : Task) (machine : History) (m : ℕ) (call : Call) → IsTask types task → IsMachine types machine → AreUnicode machine.changes
+pub first_page_comes : (types : List ServedShape) (task : Task) (machine : History) (m : ℕ) (call : Call) → IsTask types task → IsMachine types machine
     → m ≤ machine.current → IsListCall types task None call → ListComes types task machine m [] call
-first_page_comes types task machine m call is is_machine unicode low asks = comes types task machine m [] call (first_comes types task is machine is_machine unicode m call low asks)
+first_page_comes types task machine m call is is_machine low asks = comes types task machine m [] call (first_comes types task is machine is_machine m call low asks)
 
 pub next_page_comes : (types : List ServedShape) (task : Task) (machine : History) (m r : ℕ) (token : List ℕ) (paged_list : List Stored) (call : Call) → IsTask types task → IsMachine types machine
-    → AreUnicode machine.changes → m ≤ r → r ≤ machine.current → IsPart (server_of task machine) r paged_list (Some token) → IsNextCall types task r paged_list call → ListComes types task machine m paged_list call
-next_page_comes types task machine m r token paged_list call is is_machine unicode low come part asks =
-    comes types task machine m paged_list call (next_comes types task is machine is_machine unicode m r paged_list token call low part asks)
+    → m ≤ r → r ≤ machine.current → IsPart (server_of task machine) r paged_list (Some token) → IsNextCall types task r paged_list call → ListComes types task machine m paged_list call
+next_page_comes types task machine m r token paged_list call is is_machine low come part asks =
+    comes types task machine m paged_list call (next_comes types task is machine is_machine m r paged_list token call low part asks)
 
 -- each object of the list is the one that its text says
 pub mirror_is_right : (types : List ServedShape) (task : Task) (machine : History) (r : ℕ) → IsTask types task → IsMachine types machine

@@ -1,7 +1,6 @@
--- What the client reads of the line of a change that its watch sees.
-use Rattle.std.proofs.Common.{◌≡◌, ℕ, ◌≤◌, true, List, [], ◌∷◌, map, IsUtf8, refl, ap, ap₂, ◌∙◌}
+-- What the line of a change that the client's watch sees says.
+use Rattle.std.proofs.Common.{◌≡◌, ℕ, ◌≤◌, true, List, [], ◌∷◌, map, refl, ap, ap₂, ◌∙◌}
 use Rattle.std.specs.List.{All, AllByRecursion}
-use Rattle.std.specs.declared.result.Result.TheVariants.{Ok}
 use Rattle.std.proofs.lemmas.Bool.{and_parts}
 use Rattle.std.proofs.lemmas.List.Elements.{All-cons, All-nil}
 use Rattle.api_types.specs.TypesFile.{ServedShape}
@@ -14,7 +13,6 @@ use Rattle.selector.specs.Requirement.{selects}
 use Rattle.indexer.specs.Objects.{Stored}
 use Rattle.lists.specs.Body.{Collection}
 use Rattle.lists.specs.Labels.{labels_of}
-use Rattle.decoder.specs.Lines.{line_in}
 use Rattle.decoder.specs.Objects.{object_of}
 use Rattle.decoder.specs.Wanted.{Wanted}
 use Rattle.watchline.specs.Lines.{line_of, text_shown, type_of}
@@ -23,7 +21,7 @@ use Rattle.line_laws.specs.Shown.{shown, taken, version_shown}
 use Rattle.line_laws.proofs.Kept.{one_fits}
 use Rattle.line_laws.proofs.Objects.{object_read}
 use Rattle.line_laws.proofs.Pages.{one_read, place, taken_as}
-use Rattle.line_laws.proofs.Said.{change_read}
+use Rattle.line_laws.proofs.Said.{SaysLine, change_says}
 use Rattle.verbs.specs.Machine.{IsSomeTextAt}
 use Rattle.reflector.specs.Client.{place_in}
 use Rattle.wireclient.specs.LineLaws.{HasNoFeed, with_feed}
@@ -72,7 +70,7 @@ IsIt wanted Deleted k o x = (place_in x ≡ place_of k) × (x.revision ≡ o.rev
 
 pub record IsReadLine (wanted : Wanted) (kind : SeenKind) (k : Key) (o : Object) : Type 0 where
   pub stored : Stored
-  pub reads : line_in wanted (shown (type_of kind) (text_shown kind o)) ≡ Ok (taken kind stored)
+  pub says : SaysLine wanted (shown (type_of kind) (text_shown kind o)) (taken kind stored)
   pub is_it : IsIt wanted kind k o stored
 
 module _ (types : List ServedShape) (task : Task) (is : IsTask types task) where
@@ -82,7 +80,7 @@ module _ (types : List ServedShape) (task : Task) (is : IsTask types task) where
   kept : (k : Key) (o : Object) → k.kind ≡ task.settings.kind → IsSomeTextAt types k o.revision o.body → IsKept (listed_for task) k o
   kept k o own text = text_kept types task.t task.settings.kind task.settings.namespace k o is.served own text
 
-  module _ (k : Key) (o : Object) (within : is_within task.settings.kind task.settings.namespace k ≡ true) (low : o.revision ≤ max_version) (unicode : IsUtf8 o.body) where
+  module _ (k : Key) (o : Object) (within : is_within task.settings.kind task.settings.namespace k ≡ true) (low : o.revision ≤ max_version) where
     abbrev of : Collection
     of = listed_for task
 
@@ -91,21 +89,21 @@ module _ (types : List ServedShape) (task : Task) (is : IsTask types task) where
 
     -- put, as it stands
     represents_read : (kind : SeenKind) → version_shown kind o.revision o.revision ≡ o.revision → IsSomeTextAt types k o.revision o.body
-        → (x : Stored) × (line_in wanted (shown (type_of kind) (text_shown kind o)) ≡ Ok (taken kind x)) × IsReadAs wanted k o x
+        → (x : Stored) × SaysLine wanted (shown (type_of kind) (text_shown kind o)) (taken kind x) × IsReadAs wanted k o x
     represents_read kind same text =
         let fits = one_fits wanted of asks (k, o) (λ own. kept k o own text) within in
         let shape = fits.0.shape in
         let state = fits.0.state in
         let found = taken_as wanted of asks k o fits.0 fits.1 in (
           found.0,
-          change_read wanted shape (identity_of of k) o.revision state (record { kind = kind; key = k; object = o }) found.0 fits.0.shaped fits.0.says low unicode
+          change_says wanted shape (identity_of of k) o.revision state (record { kind = kind; key = k; object = o }) found.0 fits.0.shaped fits.0.says
               (ap (λ v. object_of wanted (object_value shape (identity_of of k) v state)) same ∙ found.1),
           one_read wanted of asks k o fits.0 fits.1,
         )
 
     -- deleted: as it stood before, at the deletion's revision
     gone_read : (version : ℕ) → IsSomeTextAt types k version o.body
-        → (x : Stored) × (line_in wanted (shown (type_of Deleted) (text_shown Deleted o)) ≡ Ok (taken Deleted x)) × (place_in x ≡ place_of k) × (x.revision ≡ o.revision)
+        → (x : Stored) × SaysLine wanted (shown (type_of Deleted) (text_shown Deleted o)) (taken Deleted x) × (place_in x ≡ place_of k) × (x.revision ≡ o.revision)
     gone_read version text =
         let before : Object = record { revision = version; body = o.body } in
         let fits = one_fits wanted of asks (k, before) (λ own. kept k before own text) within in
@@ -113,19 +111,19 @@ module _ (types : List ServedShape) (task : Task) (is : IsTask types task) where
         let state = fits.0.state in
         let found = object_read wanted shape (identity_of of k) o.revision state fits.0.shaped fits.0.says.well_typed low (place wanted of asks k before fits.0 fits.1) in (
           found.0,
-          change_read wanted shape (identity_of of k) version state (record { kind = Deleted; key = k; object = o }) found.0 fits.0.shaped fits.0.says low unicode found.1,
+          change_says wanted shape (identity_of of k) version state (record { kind = Deleted; key = k; object = o }) found.0 fits.0.shaped fits.0.says found.1,
           ap₂ (λ (a b : List ℕ). (a, b)) found.2.of_namespace found.2.of_name,
           found.2.of_revision,
         )
 
     read_as : (kind : SeenKind) → HasText types kind k o → IsReadLine wanted kind k o
-    read_as Added text = let found = represents_read Added refl text in record { stored = found.0; reads = found.1; is_it = found.2 }
-    read_as Modified text = let found = represents_read Modified refl text in record { stored = found.0; reads = found.1; is_it = found.2 }
-    read_as Deleted (version, text) = let found = gone_read version text in record { stored = found.0; reads = found.1; is_it = (found.2, found.3) }
+    read_as Added text = let found = represents_read Added refl text in record { stored = found.0; says = found.1; is_it = found.2 }
+    read_as Modified text = let found = represents_read Modified refl text in record { stored = found.0; says = found.1; is_it = found.2 }
+    read_as Deleted (version, text) = let found = gone_read version text in record { stored = found.0; says = found.1; is_it = (found.2, found.3) }
 
   -- it is of the type, and in the namespace, if one is asked for
   pub is_own : (x : SeenChange) → IsSeenText types (selection task) x → is_within task.settings.kind task.settings.namespace x.key ≡ true
   is_own x text = (and_parts (is_within task.settings.kind task.settings.namespace x.key) (selects task.requirements (labels_of x.object.body)) text.is_wanted).0
 
   pub line_read : (x : SeenChange) → IsSeenText types (selection task) x → x.object.revision ≤ max_version → IsReadLine wanted x.kind x.key x.object
-  line_read x text low = read_as x.key x.object (is_own x text) low text.unicode x.kind text.says
+  line_read x text low = read_as x.key x.object (is_own x text) low x.kind text.says

@@ -430,11 +430,11 @@ page_is_object wanted true (Some (string s)) p is = absurd cc
 page_is_object wanted true (Some (array ds)) p is = absurd cc
 page_is_object wanted true (Some (object fields)) p is = (fields, refl)
 
--- the text of a page has no page in a strict prefix
-pub no_page_in_prefix : (wanted : Wanted) (body : List ℕ) (k : ℕ) (p q : Page) → EndsInBrace body → k < length body → page_in wanted body ≡ Ok p → page_in wanted (take k body) ≡ Ok q → ⊥
-no_page_in_prefix wanted body k p q (prefix, ends) short whole in_prefix =
+-- the text of a page, UTF-8 or not, has no page in a strict prefix
+pub no_page_in_prefix : (wanted : Wanted) (body : List ℕ) (k : ℕ) (d : Data) (p q : Page) → EndsInBrace body → k < length body → read body ≡ Some d → page_of wanted d ≡ Ok p → page_in wanted (take k body) ≡ Ok q → ⊥
+no_page_in_prefix wanted body k d p q (prefix, ends) short is_json is_page in_prefix =
     let one = page_is_object wanted (is_utf8 (take k body)) (read (take k body)) q in_prefix in
-    let all = page_is_object wanted (is_utf8 body) (read body) p whole in
+    let all = page_is_object wanted true (read body) p (ap (λ (o : Option Data). or_malformed malformed.Json o >>= page_of wanted) is_json ∙ is_page) in
     let long : length body ≡ length prefix + 1 = ap length ends ∙ length-append prefix (125 ∷ []) in
     let parts : body ≡ take k body ++ (drop k prefix ++ 125 ∷ []) =
     sym (take-append-drop k body) ∙ ap (λ (l : List ℕ). take k body ++ l) (ap (drop k) ends ∙ drop-append-le k prefix (125 ∷ []) (omega (arith, short, long))) in

@@ -27,7 +27,7 @@ use Rattle.line_laws.proofs.SeenBodies.{all_taken}
 use Rattle.line_laws.proofs.Sent.{left_stays, marked_line, unmarked}
 use Rattle.api_request.specs.Calls.{Answer, Call, Plan}
 use Rattle.api_validation.specs.Envelope.{api_version_of}
-use Rattle.verbs.specs.Machine.{AreUnicode, IsMachine}
+use Rattle.verbs.specs.Machine.{IsMachine}
 use Rattle.verbs.specs.Step.{list_refusal, planned, refused}
 use Rattle.verbs.specs.Watching.{bookmarked_as, bookmarked_in}
 use Rattle.httpedge.specs.Watches.{Watch, has_timed_out, line_list, pumped, ticked, turned, unless_ended, with_cursor}
@@ -183,9 +183,9 @@ module _ (types : List ServedShape) (task : Task) (machine : History) (is : IsTa
         sym prefix.reaches ∙ ap (put_all_seen (selected_at task machine p)) (sym passed)
         ∙ between (selection task) machine.changes machine.current p to history.rising (omega (arith, first, up))
 
-    sends : machine.compacted ≤ p → AreUnicode machine.changes → TurnComes task machine p (turned w (sending (from_history machine) max w.cursor))
-    sends low unicode =
-        let seen = seen_are_texts types (selection task) machine p machine.current is_machine unicode in
+    sends : machine.compacted ≤ p → TurnComes task machine p (turned w (sending (from_history machine) max w.cursor))
+    sends low =
+        let seen = seen_are_texts types (selection task) machine p machine.current is_machine in
         let sent : List SeenChange = take max ahead in
         record {
           texts = map line_text sent;
@@ -253,14 +253,14 @@ module _ (types : List ServedShape) (task : Task) (machine : History) (is : IsTa
       let served : slice_get types w.cursor.kind ≡ Some task.t = ap (slice_get types) own.kind ∙ is.served in
       subst (λ (b : Bool). TickBy b (bookmarked_in types w.cursor)) (sym never) (subst (λ (o : Option ServedShape). TickBy false (bookmarked_as o w.cursor)) (sym served) (marks (is_bookmark_due w.cursor)))
 
-pub pump_comes : (types : List ServedShape) (task : Task) (machine : History) (max : ℕ) (w : Watch) → IsTask types task → IsMachine types machine → AreUnicode machine.changes
+pub pump_comes : (types : List ServedShape) (task : Task) (machine : History) (max : ℕ) (w : Watch) → IsTask types task → IsMachine types machine
     → IsTaskWatch task w → w.cursor.position ≤ machine.current → TurnComes task machine w.cursor.position (pumped machine max w)
-pump_comes types task machine max w is is_machine unicode own come = by_test (nat_lt w.cursor.position machine.compacted) refl
+pump_comes types task machine max w is is_machine own come = by_test (nat_lt w.cursor.position machine.compacted) refl
   where
     by_test : (b : Bool) → nat_lt w.cursor.position machine.compacted ≡ b
         → TurnComes task machine w.cursor.position (turned w (cond b (expiring (from_history machine) w.cursor) (sending (from_history machine) max w.cursor)))
     by_test true past = expires types task machine is is_machine w own come
-    by_test false low = sends types task machine is is_machine w own come max (ltb-false w.cursor.position machine.compacted low) unicode
+    by_test false low = sends types task machine is is_machine w own come max (ltb-false w.cursor.position machine.compacted low)
 
 pub tick_comes : (types : List ServedShape) (task : Task) (machine : History) (ms : ℕ) (w : Watch) → IsTask types task → IsMachine types machine
     → IsTaskWatch task w → w.cursor.position ≤ machine.current → TurnComes task machine w.cursor.position (ticked types ms w)

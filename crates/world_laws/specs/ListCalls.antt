@@ -1,8 +1,16 @@
--- The calls by which the client of a task asks for its list, page by page (Kubernetes API Concepts, "Retrieving large results sets in chunks").
-use Rattle.std.specs.Prelude.{◌≡◌, ℕ, List, Option, Some, None}
+-- The calls by which the client of a task asks for its list, page by page (Kubernetes API Concepts, "Retrieving large results sets in chunks"),
+-- and what it reads of an answer.
+use Rattle.std.specs.Prelude.{◌≡◌, ℕ, if◌then◌else◌, List, Option, Some, None}
 use Rattle.std.specs.List.{last_or}
+use Rattle.std.specs.Str.{is_utf8}
+use Rattle.std.specs.declared.result.Result.TheVariants.{Ok, Err}
+use Rattle.history.specs.Seen.{SeenPage}
 use Rattle.indexer.specs.Objects.{Stored}
 use Rattle.params.specs.Values.{Token, Values, no_values}
+use Rattle.decoder.specs.Pages.{page_in}
+use Rattle.decoder.specs.Wanted.{Wanted}
+use Rattle.decoder.specs.declared.malformed.Malformed.TheVariants.{Json}
+use Rattle.line_laws.specs.Listed.{AreReadAs, page_with}
 use Rattle.api_types.specs.TypesFile.{ServedShape}
 use Rattle.api_request.specs.Calls.{Call}
 use Rattle.wire_laws.specs.Listings.{IsListing}
@@ -22,3 +30,8 @@ pub record IsListCall (types : List ServedShape) (task : Task) (token : Option T
 abbrev pub IsNextCall : List ServedShape → Task → ℕ → List Stored → Call → Type 0
 IsNextCall types task revision paged_list call =
     (o : Stored) × (last_or None paged_list ≡ Some o) × IsListCall types task (Some (record { revision = revision; namespace = o.namespace; name = o.name })) call
+
+-- a client reads the body as exactly this page of the revision where it is UTF-8, and as no JSON where it isn't
+abbrev pub IsReadAsPageIfUtf8 : Wanted → List ℕ → ℕ → SeenPage → Type 0
+IsReadAsPageIfUtf8 wanted body revision page =
+    (objects : List Stored) × (page_in wanted body ≡ (if is_utf8 body then Ok (page_with revision page.next objects) else Err Json)) × AreReadAs wanted page.found objects

@@ -10,6 +10,7 @@ returns c = lists_come (record {
   short = c.replies_are_read.ensures.short;
   first = c.pages_are_answered.ensures.first;
   next = c.pages_are_answered.ensures.next;
+  texts = c.pages_are_answered.ensures.texts;
 }) (record {
   begins = λ types shapes. c.machines_stay.ensures.begins types 1 shapes (omega arith) (omega arith);
   machines = c.machines_last.ensures;

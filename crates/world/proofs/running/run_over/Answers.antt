@@ -22,7 +22,7 @@ returns-clause-runs g c =
     (length-map c.args.indexes.items (λ b. g.I.IndexBy.title b)) c.in_ok-world.ensures.settings represents.1 represents.2 all.2
     (traces_as (λ b o. g.I.IndexBy.keys b o) (indexes_in client) c.args.indexes.items (names_in client) (map (λ b. g.I.IndexBy.title b) c.args.indexes.items) label label all.0 all.1 c.in_ok-trace.field-0
     c.in_ok-world.ensures.indexes c.in_ok-world.ensures.names refl (c.in_ok-trace.ensures.traces task _ all.0 (indexes_in client) (names_in client) all.1 all.3 all.4))
-    (c.one_history.ensures (types_view c.args.types) task events all.0 all.1 c.types_are_of_objects.ensures represents.1 all.2 all.3.hub.0.0.0.machine.0.unicode)
+    (c.one_history.ensures (types_view c.args.types) task events all.0 all.1 c.types_are_of_objects.ensures represents.1 all.2)
 
 pub returns-clause-client : goal.returns-clause-client
 returns-clause-client g c =
@@ -42,7 +42,7 @@ returns-clause-client g c =
       runs = all.2;
       shows = traces_as (λ b o. g.I.IndexBy.keys b o) (indexes_in client) c.args.indexes.items (names_in client) (map (λ b. g.I.IndexBy.title b) c.args.indexes.items) task.settings.label (string_bytes c.args.settings.label) all.0 all.1 c.in_ok-trace.field-0
           c.in_ok-world.ensures.indexes c.in_ok-world.ensures.names (ap (λ s. s.label) represents.2) traces;
-      right = (c.headline.ensures (types_view c.args.types) task events all.0 all.1 c.types_are_of_objects.ensures represents.1 all.2 all.3.hub.0.0.0.machine.0.unicode).0;
+      right = (c.headline.ensures (types_view c.args.types) task events all.0 all.1 c.types_are_of_objects.ensures represents.1 all.2).0;
     }
 
 pub returns-in_err-reports-clause-settings : goal.returns-in_err-reports-clause-settings
