@@ -8,7 +8,7 @@
 use crate::connections::CONNECTIONS;
 use crate::given::{EACH_KIND, PORT_TYPES, STATUS_TYPES, WIDGET_TYPES, types_text};
 use crate::list_rows::LISTS;
-use crate::pieces::PIECES;
+use crate::pieces::{FRONTS, LARGER_HEADS, PIECES};
 use crate::refused_memory::REFUSED_MEMORY;
 use crate::retype_rows::RETYPES;
 use crate::single_objects::SINGLE_OBJECTS;
@@ -169,6 +169,16 @@ fn types_that_change(rt: HostRuntime) -> Result<(), Fail> {
 #[test]
 fn pieces(rt: HostRuntime) -> Result<(), Fail> {
     play_all(&rt, PIECES)
+}
+
+#[test]
+fn larger_heads(rt: HostRuntime) -> Result<(), Fail> {
+    play_all(&rt, LARGER_HEADS)
+}
+
+#[test]
+fn fronts(rt: HostRuntime) -> Result<(), Fail> {
+    play_all(&rt, FRONTS)
 }
 
 #[test]

@@ -4,7 +4,6 @@
 /// `hub_rows` says what the rows are, and plays them.
 pub const PIECES: &str = r#"heads_are_limited on widgets
 cut 1 <16384 a> => undecided
-cut 20000 <16385 a> => 431 request head too large
 cut 40000 GET /apis/demo.example/v1/widgets HTTP/1.1|$Host: x|$<63 a: b|$>|$ => 200 1
 cut 41000 GET /apis/demo.example/v1/widgets HTTP/1.1|$Host: x|$<64 a: b|$>|$ => 431 request head too large
 cut 42000 ~ ~|$ => undecided
@@ -29,9 +28,16 @@ cut 9000 PUT /apis/demo.example/v1/namespaces/default/widgets/w1 HTTP/1.1|$Host:
 cut 20000 POST /apis/demo.example/v1/namespaces/default/widgets HTTP/1.1|$Host: x|$|$ => 411 Content-Length is needed
 cut 21000 PUT /apis/demo.example/v1/namespaces/default/widgets/w1 HTTP/1.1|$Host: x|$Content-Length: 254|$|$<127 [><127 ]> => 400 .: not an object
 cut 22000 PUT /apis/demo.example/v1/namespaces/default/widgets/w1 HTTP/1.1|$Host: x|$Content-Length: 256|$|$<128 [><128 ]> => 400 body is not JSON
-got 30000 GET widgets => 200 {"apiVersion":"demo.example/v1","items":[],"kind":"WidgetList","metadata":{"resourceVersion":"1"}}
+got 30000 GET widgets => 200 {"apiVersion":"demo.example/v1","items":[],"kind":"WidgetList","metadata":{"resourceVersion":"1"}}"#;
 
-no_front_of_a_request_is_answered on widgets: but by a refusal from its head's last byte on, where the head alone decides; nor does one change anything
+/// A head of one byte too much, cut at every place; by itself, since it takes longest.
+pub const LARGER_HEADS: &str = r#"larger_heads_are_refused on widgets
+cut 1 <16385 a> => 431 request head too large
+got 20000 GET widgets => 200 {"apiVersion":"demo.example/v1","items":[],"kind":"WidgetList","metadata":{"resourceVersion":"1"}}"#;
+
+/// Every prefix of what comes at each row.
+pub const FRONTS: &str =
+    r#"no_front_of_a_request_is_answered on widgets: but by a refusal from its head's last byte on, where the head alone decides; nor does one change anything
 fronts 0 single objects => -
 fronts 0 lists => -
 fronts 0 watches => -
