@@ -3,6 +3,7 @@
 from __future__ import annotations
 
 import re
+import subprocess
 import sys
 import threading
 
@@ -18,6 +19,7 @@ class Results:
         self._passed = 0
         self._failed: list[str] = []
         self._lock = threading.Lock()
+        self._running: set[subprocess.Popen[str]] = set()
 
     def counted_in_all(self) -> int:
         """How many there are."""
@@ -60,15 +62,28 @@ class Results:
             )
             self.failed(name, f"it ended with {ended}")
 
-    def run(self, name: str, command: list[str], where: str = repository.TOP) -> None:
-        """Runs a command and tells what it says. It counts as its last line does, or by its status as one."""
-        said = ""
+    def run(
+        self,
+        name: str,
+        command: list[str],
+        where: str = repository.TOP,
+        is_beside: bool = False,
+    ) -> None:
+        """Runs a command and tells what it says, at its end where others run beside it. It counts as its last line does, or by its status as one."""
+        said, kept = "", ""
         try:
             with repository.started(command, where) as started:
+                self._running.add(started)
                 for line in started.stdout or ():
                     said = line.strip() or said
-                    if not LAST_LINE.fullmatch(said):
+                    if LAST_LINE.fullmatch(said):
+                        continue
+                    if is_beside:
+                        kept += line
+                    else:
                         print(line, end="", flush=True)
+                print(kept, end="", flush=True)
+            self._running.discard(started)
         except OSError as error:
             self.failed(name, f"{command[0]} doesn't start: {error}")
             return
@@ -78,6 +93,11 @@ class Results:
             self.passed()
         else:
             self.failed(name, f"status {started.returncode}")
+
+    def kill(self) -> None:
+        """Kills the commands that run beside."""
+        for it in list(self._running):
+            it.kill()
 
     def close(self) -> int:
         """Says what failed and how much passed, and returns the status."""

@@ -9,8 +9,6 @@
 from __future__ import annotations
 
 import os
-import shutil
-import subprocess
 import sys
 import tempfile
 
@@ -20,43 +18,10 @@ import repository
 from released import TOP
 from results import Results
 
-SECONDS = 120
 NOT_SHOWN = """not shown here, since it needs the kit (`rt`):
   that the programs meet their contracts (the proofs), that the prover refuses the wrong bodies, the layout of the sources
   the tests of crates/*_tests, and that each allocation may be refused
   that the released programs are the ones that their sources make (tools/release.py --check, after the gate)"""
-
-
-def stored_run(crate: str, program: str, results: Results) -> None:
-    """A program's stored run: its arguments and its input on a copy of its data, what it prints and its status."""
-    name, folder = f"{crate}: the stored run", f"{TOP}/crates/{crate}"
-    wanted, status = quick.read(f"{folder}/stdout"), int(
-        quick.read(f"{folder}/status") or 0
-    )
-    with tempfile.TemporaryDirectory() as room:
-        data = f"{room}/data"
-        if os.path.isdir(f"{folder}/data"):
-            shutil.copytree(f"{folder}/data", data)
-        else:
-            os.mkdir(data)
-        words = [program, *quick.read(f"{folder}/args").decode().splitlines()]
-        try:
-            done = subprocess.run(
-                words,
-                cwd=data,
-                input=quick.read(f"{folder}/stdin"),
-                stdout=subprocess.PIPE,
-                stderr=subprocess.DEVNULL,
-                timeout=SECONDS,
-                check=False,
-            )
-        except subprocess.TimeoutExpired:
-            results.failed(name, f"it had not ended after {SECONDS} seconds")
-            return
-    prints = "what is stored" if done.stdout == wanted else "something else"
-    is_well = (done.returncode, done.stdout) == (status, wanted)
-    why = f"it ends with status {done.returncode} and not {status}, and prints {prints}"
-    results.told(name, is_well, "it is as stored" if is_well else why)
 
 
 def of_the_files(results: Results) -> None:
@@ -77,7 +42,7 @@ def of_the_programs(folder: str, results: Results) -> None:
     crates = released.programs(released.lines_of_crates())
     for name, crate in crates.items():
         if os.path.exists(f"{folder}/{name}"):
-            stored_run(crate, f"{folder}/{name}", results)
+            quick.stored_run(crate, f"{folder}/{name}", TOP, results)
     os.environ["NAZHUVEM_BIN"] = folder
     quick.over_the_programs(TOP, results, folder)
 
