@@ -25,9 +25,10 @@ use Rattle.requests.specs.Decision.{accepted, and_then, decided_by}
 use Rattle.wireclient.specs.Request.{request}
 use Rattle.wire_laws.specs.Printed.{IsPrinted, IsRequest, asked_without, is_question}
 use Rattle.reflector.specs.Faults.{is_page_size}
-use Rattle.reflector.specs.Requests.{list_query, path_of}
-use Rattle.liveness_laws.specs.Listable.{list_request}
-use Rattle.world_laws.proofs.Queries.{IsVisible, first_is_read, first_pairs, first_query, form_visible, next_query, visible_text, visible_uri}
+use Rattle.reflector.specs.Requests.{list_query, path_of, watch_query}
+use Rattle.liveness_laws.specs.Listable.{list_request, watch_request}
+use Rattle.world_laws.proofs.Queries.{IsVisible, first_is_read, first_pairs, first_query, form_visible, next_query, visible_text, visible_uri, watch_is_read, watch_pairs, watch_query_is}
+use Rattle.world_laws.proofs.Passes.{IsWatchCall}
 use Rattle.world_laws.proofs.Routed.{IsPathByte, path_bytes, path_reaches, resource_for, unasked}
 use Rattle.world_laws.specs.ListCalls.{IsListCall}
 use Rattle.world_laws.specs.Tasks.{IsTask, Task, client_settings, wanted_by}
@@ -50,7 +51,7 @@ module _ (ask : RequestsAsk) (types : List ServedShape) (task : Task) (is : IsTa
   abbrev asked_of : Target
   asked_of = record { kind = task.settings.kind; namespace = task.settings.namespace; name = None; status = false; method = Get }
 
-  abbrev call_with : List ℕ → Call
+  abbrev pub call_with : List ℕ → Call
   call_with query = record { target = asked_of; query = query; body = None }
 
   got : (namespace : Option (List ℕ))
@@ -126,6 +127,30 @@ module _ (ask : RequestsAsk) (types : List ServedShape) (task : Task) (is : IsTa
             unnamed = refl;
             says = ap read_or_refused (query_is_read r task.settings.page k task.settings.selector task.requirements can low is.text is.selector);
             unwatched = refl;
+          };
+          kind = refl;
+          namespace = refl;
+        },
+      )
+
+  -- a watch from a revision
+  pub asks_watch : (r : ℕ) → r ≤ last_revision → length (watch_request task r) ≤ max_head → (call : Call) × Asks types (watch_request task r) (accepted call) × IsWatchCall types task r call
+  asks_watch r come fits =
+      let pairs : Pairs = watch_pairs r task.settings.selector in
+      let query : List ℕ = extend_pairs [] pairs in
+      let same : watch_query (client_settings task) r ≡ query = watch_query_is (client_settings task) r in
+      let bytes : List ℕ → List ℕ = λ q. request (codes "GET") (path_of (wanted_by task) ++ 63 ∷ q) None in (
+        call_with query,
+        subst (λ q. Asks types (bytes q) (accepted (call_with query))) (sym same)
+            (asks_call query (form_visible [] pairs (All-nil IsVisible)) (subst (λ q. length (bytes q) ≤ max_head) same fits)),
+        record {
+          watches = record {
+            served = is.served;
+            gets = refl;
+            unnamed = refl;
+            says = ap read_or_refused (watch_is_read r task.settings.selector task.requirements come is.text is.selector);
+            watches = refl;
+            after = refl;
           };
           kind = refl;
           namespace = refl;

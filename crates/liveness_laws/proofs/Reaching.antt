@@ -32,7 +32,7 @@ pub record IsAfterRun (task : Task) (w : World) : Type 0 where
   pub machine : IsMachine w.hub.types w.hub.machine
   pub still : IsStillTask w.hub.types task
 
-after_run : Lasts → (types : List ServedShape) (task : Task) (before : List WorldEvent) (w : World) (earlier : List Report) → AreObjectTypes types → IsTask types task → Runs task 1 (start types) before w earlier
+pub after_run : Lasts → (types : List ServedShape) (task : Task) (before : List WorldEvent) (w : World) (earlier : List Report) → AreObjectTypes types → IsTask types task → Runs task 1 (start types) before w earlier
     → IsAfterRun task w
 after_run lasts types task before w earlier shapes is run =
     let led = runs_run task 1 (start types) before w earlier run in
@@ -42,7 +42,7 @@ after_run lasts types task before w earlier shapes is run =
     }
 
 -- it is ready for the list
-ready : Laws → (task : Task) (w : World) (pages : ℕ) → IsAfterRun task w → FitsIn task w.hub.machine pages → IsListable task w.hub.machine → HasRoom w.hub.connections pages → IsReady task w pages
+pub ready : Laws → (task : Task) (w : World) (pages : ℕ) → IsAfterRun task w → FitsIn task w.hub.machine pages → IsListable task w.hub.machine → HasRoom w.hub.connections pages → IsReady task w pages
 ready laws task w pages after held listable room =
     let types : List ServedShape = w.hub.types in
     let shaped : Task = with_shape task after.still.0 in

@@ -28,7 +28,7 @@ pursues_run task i w (e ∷ es) v reports (mid, others, is_next, steps, pursues,
 -- ---- numbers
 
 -- what a client leaves makes no id higher
-left_highest : (all : Connections) (w : World) → highest (fin.keys (left_by all w.connection)) ≤ highest (fin.keys all)
+pub left_highest : (all : Connections) (w : World) → highest (fin.keys (left_by all w.connection)) ≤ highest (fin.keys all)
 left_highest all w =
     let id : ℕ = highest (fin.keys all) + 1 in
     let new : is_new (left_by all w.connection) id ≡ true = left_new all w.connection id ∙ above_all (fin.keys all) id (omega arith) in

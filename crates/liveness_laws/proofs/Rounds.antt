@@ -160,12 +160,12 @@ module _ (task : Task) (h : edge.State) where
   left_stays all None q isnt = refl
   left_stays all (Some own) q isnt = left_elsewhere all own q (apart_by q own.id isnt)
 
-  new_is_other : (all : Connections) (id q : ℕ) (c : Connection) → next_id all ≡ Some id → fin.get all q ≡ Some c → q ≢ id
+  pub new_is_other : (all : Connections) (id q : ℕ) (c : Connection) → next_id all ≡ Some id → fin.get all q ≡ Some c → q ≢ id
   new_is_other all id q c is got same =
       let none : Some c ≡ None = unknown all id (Some c) (ap (fin.get all) (sym same) ∙ got) (next_is_new all id is) in
       absurd cc
 
-  stays : (all : Connections) (own : Option ClientConnection) (id q : ℕ) (c d : Connection) → next_id all ≡ Some id → fin.get all q ≡ Some c → is_own own q ≡ false → fin.get (fin.insert (left_by all own) id d) q ≡ Some c
+  pub stays : (all : Connections) (own : Option ClientConnection) (id q : ℕ) (c d : Connection) → next_id all ≡ Some id → fin.get all q ≡ Some c → is_own own q ≡ false → fin.get (fin.insert (left_by all own) id d) q ≡ Some c
   stays all own id q c d is got isnt = put_elsewhere (left_by all own) id q d (new_is_other all id q c is got) ∙ left_stays all own q isnt ∙ got
 
   -- ---- the pages, one after the other

@@ -13,7 +13,7 @@ use Rattle.httpedge.specs.Connections.{Connections, highest, max_open, open_coun
 use Rattle.wireclient.specs.Reads.{max_body}
 use Rattle.wireclient.specs.Request.{request}
 use Rattle.reflector.specs.Client.{max_objects}
-use Rattle.reflector.specs.Requests.{list_query, path_of}
+use Rattle.reflector.specs.Requests.{list_query, path_of, watch_query}
 use Rattle.world_laws.specs.Tasks.{Task, client_settings, selected_at, selection, wanted_by}
 
 -- ---- the list
@@ -33,6 +33,10 @@ collection task = collection_of task.t task.settings.kind task.settings.namespac
 -- the client's request for the page behind a token, or for the first
 abbrev pub list_request : Task → Option (List ℕ) → List ℕ
 list_request task token = request (codes "GET") (path_of (wanted_by task) ++ 63 ∷ list_query (client_settings task) token) None
+
+-- its request for a watch from a revision
+abbrev pub watch_request : Task → ℕ → List ℕ
+watch_request task revision = request (codes "GET") (path_of (wanted_by task) ++ 63 ∷ watch_query (client_settings task) revision) None
 
 -- ---- what it needs
 

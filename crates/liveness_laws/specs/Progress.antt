@@ -1,12 +1,14 @@
 -- That a client comes to the machine's current revision: what a schedule leads to, and what it leaves as it was.
-use Rattle.std.specs.Prelude.{◌≡◌, ℕ, suc, ◌+◌, ◌*◌, ◌≤◌, ◌==◌, Bool, true, false, List, [], ◌∷◌, length, Option, Some, None}
+use Rattle.std.specs.Prelude.{◌≡◌, ℕ, suc, ◌+◌, ◌*◌, ◌<◌, ◌≤◌, ◌==◌, Bool, true, false, List, [], ◌∷◌, length, Option, Some, None}
 use Rattle.std.specs.FinMap as fin
 use Rattle.std.specs.List.{list_all}
 use Rattle.api_types.specs.TypesFile.{ServedShape}
 use Rattle.verbs.specs.Machine.{AreObjectTypes}
+use Rattle.wire.specs.Heads.{max_head}
 use Rattle.httpedge.specs.Connections.{Connection}
-use Rattle.reflector.specs.Client.{Cache, first}
-use Rattle.liveness_laws.specs.Listable.{FitsIn, HasRoom, IsListable}
+use Rattle.indexer.specs.Objects.{Stored}
+use Rattle.reflector.specs.Client.{Cache, first, next, streaming}
+use Rattle.liveness_laws.specs.Listable.{FitsIn, HasRoom, IsListable, watch_request}
 use Rattle.liveness_laws.specs.Moves.{Pursues, is_current}
 use Rattle.world_laws.specs.Reports.{Report, Runs, reports_between}
 use Rattle.world_laws.specs.Tasks.{IsTask, Task}
@@ -77,3 +79,37 @@ ListsComeAnew =
     → AreObjectTypes types → IsTask types task → Runs task 1 (start types) before w earlier
     → w.client.is_awaiting_reply ≡ false → w.client.sync ≡ first → is_current w ≡ false
     → FitsIn task w.hub.machine pages → IsListable task w.hub.machine → HasRoom w.hub.connections pages → RevisionComes task (suc (length before)) w pages
+
+-- ---- what is given up
+
+-- at most three moves, of which none is reported, give up what the client was about, and the moves behind them lead to the machine's current revision. The client keeps what it had
+-- until then
+pub record ComesAnew (task : Task) (i : ℕ) (w : World) (pages : ℕ) : Type 0 where
+  pub given_up : List WorldEvent
+  pub mid : World
+  pub gives_up : Pursues task i w given_up mid []
+  pub few : length given_up ≤ 3
+  pub number : ℕ
+  pub is_number : number ≡ i + length given_up
+  pub comes : RevisionComes task number mid pages
+  pub kept : mid.client.cache ≡ w.client.cache
+  pub machine : comes.end.hub.machine ≡ w.hub.machine
+  pub others : OthersStay w comes.end
+
+-- Without a restart, where the client is in the middle of a list of another revision than the machine has, between two pages or in one: its connection is cut, and the list begins anew. Between
+-- two pages that takes one connection more.
+abbrev pub PastListsAreGivenUp : Type 0
+PastListsAreGivenUp =
+    (types : List ServedShape) (task : Task) (before : List WorldEvent) (w : World) (earlier : List Report) (pages revision : ℕ) (token : List ℕ) (paged : List Stored)
+    → AreObjectTypes types → IsTask types task → Runs task 1 (start types) before w earlier
+    → w.client.sync ≡ next revision token paged → (revision == w.hub.machine.current) ≡ false → is_current w ≡ false
+    → FitsIn task w.hub.machine pages → IsListable task w.hub.machine → HasRoom w.hub.connections (suc pages) → ComesAnew task (suc (length before)) w pages
+
+-- Without a restart, where the client is to watch from a revision that is forgotten: the server answers 410, and the list begins anew.
+abbrev pub ExpiredWatchesAreGivenUp : Type 0
+ExpiredWatchesAreGivenUp =
+    (types : List ServedShape) (task : Task) (before : List WorldEvent) (w : World) (earlier : List Report) (pages : ℕ) (now : Cache)
+    → AreObjectTypes types → IsTask types task → Runs task 1 (start types) before w earlier
+    → w.client.is_awaiting_reply ≡ false → w.client.sync ≡ streaming → w.client.cache ≡ Some now → now.revision < w.hub.machine.compacted
+    → length (watch_request task now.revision) ≤ max_head
+    → FitsIn task w.hub.machine pages → IsListable task w.hub.machine → HasRoom w.hub.connections (suc pages) → ComesAnew task (suc (length before)) w pages
