@@ -1,2 +1,3 @@
+pub mod Behind
 pub mod Latest
 pub mod ObjectCache

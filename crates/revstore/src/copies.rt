@@ -1,10 +1,11 @@
-//! Copies of keys, changes and objects. Each may find no memory.
+//! Copies of keys, changes and objects, each of which may find no memory; and whether keys are the same, and how long texts are.
 
 ghost use Rattle.std.specs.Prelude.{◌≡◌, IfOk, IsTrue, option_map, string_bytes};
 ghost use Rattle.history.specs.Read.{change_of, key_of, object_of};
+ghost use Rattle.revstore.specs.Waiting.{is_key};
 
 use history::{Change, Key, Object};
-use std::alloc::AllocError;
+use std::alloc::{AllocError, Global};
 
 /// A copy of a key.
 pub(crate) fn copy_of_key(key: &Key) -> Result<Key, AllocError>
@@ -15,6 +16,16 @@ pub(crate) fn copy_of_key(key: &Key) -> Result<Key, AllocError>
         namespace: key.namespace.clone()?,
         name: key.name.clone()?,
     })
+}
+
+/// A copy of what a write gives a key, or of nothing.
+pub(crate) fn copy_of_body(alloc: Global, body: Option<&str>) -> Result<Option<String>, AllocError>
+    ensures { IfOk result (λ t. option_map string_bytes t ≡ option_map (λ b. b.now) body.entry) }
+{
+    match body {
+        Some(body) => Ok(Some(String::from_str(alloc, body)?)),
+        None => Ok(None),
+    }
 }
 
 fn copy_of_text(text: &Option<String>) -> Result<Option<String>, AllocError>
@@ -52,9 +63,19 @@ pub(crate) fn copy_of_object(object: &Option<Object>) -> Result<Option<Object>, 
 
 /// Whether two keys are the same.
 pub(crate) fn is_same_key(key: &Key, other: &Key) -> bool
-    ensures { IsTrue result → key_of key.now ≡ key_of other.now }
+    ensures same { IsTrue result → key_of key.now ≡ key_of other.now }
+    ensures is { result ≡ is_key (key_of key.now) (key_of other.now) }
 {
     key.kind == other.kind
         && key.namespace.as_str() == other.namespace.as_str()
         && key.name.as_str() == other.name.as_str()
+}
+
+/// How many bytes the texts of a write have.
+pub(crate) fn bytes_of_texts(key: &Key, body: Option<&str>) -> usize {
+    let names = key.namespace.len().saturating_add(key.name.len());
+    match body {
+        Some(body) => names.saturating_add(body.len()),
+        None => names,
+    }
 }

@@ -9,6 +9,7 @@ ghost use Rattle.history.specs.View.{IsView, compacted_in, state_in, view, writt
 ghost use Rattle.history.specs.Whole.{AreThere};
 ghost use Rattle.history.specs.Writes.{changes_by, written_all_in};
 
+use crate::batched::BatchedTable;
 use crate::cached::{ObjectCache, known_now, with_read, write_over};
 use crate::fault::{ChangesFault, CompactFault, ListFault, WriteFault};
 use crate::window::{
@@ -21,7 +22,7 @@ use std::mem;
 
 /// The objects of all types, by key, and their changes.
 pub struct Store {
-    table: Table,
+    table: BatchedTable,
     /// The latest changes, where they are cached.
     window: Option<ChangeWindow>,
     /// What stands under the keys that were written or read last, where it is held.
@@ -61,9 +62,8 @@ impl Store {
     pub fn new(table: Table) -> Store
         ensures { result ≡ view table }
     {
-        let _ = table.marks();
         Store {
-            table,
+            table: BatchedTable::new(table),
             window: None,
             cached: None,
         }

@@ -9,7 +9,9 @@ ghost use Rattle.history.specs.Page.{changes_within, is_within};
 ghost use Rattle.history.specs.Read.{change_of, key_of, object_of};
 ghost use Rattle.revstore.specs.ChangeWindow.{AreLatest, changes_in};
 
-use crate::copies::{copy_of_change, copy_of_key, copy_of_object, is_same_key};
+use crate::copies::{
+    bytes_of_texts, copy_of_body, copy_of_change, copy_of_key, copy_of_object, is_same_key,
+};
 use history::{Change, Key, Object};
 use revtable::Fault;
 use std::alloc::{AllocError, Global};
@@ -43,14 +45,10 @@ pub(crate) struct ChangeWindow {
 fn change_by(revision: u64, key: &Key, body: Option<&str>) -> Result<Change, AllocError>
     ensures { IfOk result (λ c. change_of c ≡ record { revision = revision; key = key_of key.now; body = option_map (λ b. b.now) body.entry }) }
 {
-    let body = match body {
-        Some(body) => Some(String::from_str(*key.namespace.allocator(), body)?),
-        None => None,
-    };
     Ok(Change {
         revision,
         key: copy_of_key(key)?,
-        body,
+        body: copy_of_body(*key.namespace.allocator(), body)?,
     })
 }
 
@@ -61,25 +59,12 @@ fn bytes_of_object(object: &Option<Object>) -> usize {
     }
 }
 
-fn bytes_of_change(change: &Change) -> usize {
-    let body = match &change.body {
-        Some(body) => body.len(),
-        None => 0,
-    };
-    let key = change
-        .key
-        .namespace
-        .len()
-        .saturating_add(change.key.name.len());
-    key.saturating_add(body)
-}
-
 fn bytes_of_latest(latest: &Latest) -> usize {
     let before = match &latest.before {
         Some(before) => bytes_of_object(before),
         None => 0,
     };
-    bytes_of_change(&latest.change).saturating_add(before)
+    bytes_of_texts(&latest.change.key, latest.change.body.as_deref()).saturating_add(before)
 }
 
 fn bytes_of(all: &[Latest]) -> usize {

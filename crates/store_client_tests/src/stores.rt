@@ -8,6 +8,8 @@
 //! | `write KEY BODY`, `erase KEY`, `compact REVISION` | a change is made |
 //! | `both NAME BODY` | it is written under this name in `default` and in `other`, at once |
 //! | `anew write KEY BODY`, `anew compact KEY REVISION` | whether it is made between marks; where it failed it must leave all as it was, and is made again |
+//! | `many KEY COUNT LENGTH` | so many changes of a key are made, each with a text of so many bytes; the current revision |
+//! | `again CALL KEY WORD` | whether it is done between marks, where what waits to be written still waits; where it failed it is made again |
 //! | `get KEY`, `before KEY REVISION` | what stands under the key, or stood before the revision, which is one that has come and isn't compacted |
 //! | `list REVISION`, `changes REVISION` | the objects that stand at it; the changes that came in `default` after it |
 //! | `kept REVISION MAX` | the first objects there that have a text of one byte, at most so many; how many texts were looked at |
@@ -117,6 +119,8 @@ impl Answers for Stored {
             "changes" => in_words(alloc, store.changes(7, Some("default"), number(one)?, 10)),
             "compact" => in_words(alloc, store.compact(number(one)?)),
             "anew" => anew(alloc, store, one, other),
+            "again" => again(alloc, store, one, other),
+            "many" => many(alloc, store, one, other),
             "both" => both(alloc, store, one, other),
             _ => answer_of_key(alloc, store, call, &key(alloc, one)?, other),
         }
@@ -150,11 +154,15 @@ fn seen(alloc: Global, store: &mut Store) -> Result<String, Fail> {
     in_words(alloc, (current, compacted, first, last, (between, a, b)))
 }
 
-/// Writes, or compacts to the revision of a word. Whether it is done.
+/// Writes, or compacts to the revision of a word, or looks. Whether it is done.
 fn change(store: &mut Store, call: &str, key: &Key, word: &str) -> bool {
+    let revision = word.parse::<u64>().unwrap_or(0);
     match call {
         "write" => store.write(key, Some(word)).is_ok(),
-        _ => store.compact(word.parse::<u64>().unwrap_or(0)).is_ok(),
+        "get" => store.get(key).is_ok(),
+        "list" => store.list_at(7, None, revision, None, 10).is_ok(),
+        "changes" => store.changes(7, None, revision, 10).is_ok(),
+        _ => store.compact(revision).is_ok(),
     }
 }
 
@@ -171,6 +179,30 @@ fn anew(alloc: Global, store: &mut Store, call: &str, words: &str) -> Result<Str
     }
     expect_text(seen(alloc, store)?, before.as_str())?;
     in_words(alloc, change(store, call, &key, word))
+}
+
+/// A call between marks, and no look before it; where it failed, it is made again.
+fn again(alloc: Global, store: &mut Store, call: &str, words: &str) -> Result<String, Fail> {
+    let (place, word) = first_word(words);
+    let key = key(alloc, place)?;
+    mark(alloc)?;
+    let is_done = change(store, call, &key, word);
+    mark(alloc)?;
+    in_words(alloc, is_done || change(store, call, &key, word))
+}
+
+/// Writes a key so often, with a text of so many bytes.
+fn many(alloc: Global, store: &mut Store, place: &str, words: &str) -> Result<String, Fail> {
+    let (count, length) = first_word(words);
+    let key = key(alloc, place)?;
+    let mut body = String::new(alloc);
+    for _ in 0..number(length)? {
+        body.push('m')?;
+    }
+    for _ in 0..number(count)? {
+        change(store, "write", &key, body.as_str());
+    }
+    in_words(alloc, store.current())
 }
 
 /// Plays an example on a store that begins at this revision. The store is not dropped, and no other function holds one.
@@ -239,7 +271,17 @@ get w1 => Ok(None)
 changes 9223372036854775806 => Ok([])
 write w1 a => Ok(9223372036854775807)
 both w1 b => Err(Exhausted)
-get w1 => Ok(Some(Object { revision: 9223372036854775807, body: "a" }))"#;
+get w1 => Ok(Some(Object { revision: 9223372036854775807, body: "a" }))
+
+store 1 a_write_where_64_wait
+many a 64 1 => 65
+write b b66 => Ok(66)
+numbers => (66, 1)
+list 65 => Ok([Entry { key: Key { kind: 7, namespace: "default", name: "a" }, object: Object { revision: 65, body: "m" } }])
+list 66 => Ok([Entry { key: Key { kind: 7, namespace: "default", name: "a" }, object: Object { revision: 65, body: "m" } }, Entry { key: Key { kind: 7, namespace: "default", name: "b" }, object: Object { revision: 66, body: "b66" } }])
+before a 65 => Ok(Some(Object { revision: 64, body: "m" }))
+both c c => Ok(68)
+changes 63 => Ok([Change { revision: 64, key: Key { kind: 7, namespace: "default", name: "a" }, body: Some("m") }, Change { revision: 65, key: Key { kind: 7, namespace: "default", name: "a" }, body: Some("m") }, Change { revision: 66, key: Key { kind: 7, namespace: "default", name: "b" }, body: Some("b66") }, Change { revision: 67, key: Key { kind: 7, namespace: "default", name: "c" }, body: Some("c") }])"#;
 
 #[test]
 fn examples(rt: HostRuntime) -> Result<(), Fail> {
@@ -272,4 +314,59 @@ seen => (6, 5, Ok([Entry { key: Key { kind: 7, namespace: "default", name: "a" }
 #[test]
 fn a_compaction_that_is_refused_memory(rt: HostRuntime) -> Result<(), Fail> {
     play_each(rt.alloc(), COMPACTED_ANEW)
+}
+
+const WAITING: &str = r#"store 1 a_write_where_256_KiB_wait
+many a 1 262144 => 2
+again write a a3 => true
+again write b b4 => true
+numbers => (4, 1)
+list 3 => Ok([Entry { key: Key { kind: 7, namespace: "default", name: "a" }, object: Object { revision: 3, body: "a3" } }])
+list 4 => Ok([Entry { key: Key { kind: 7, namespace: "default", name: "a" }, object: Object { revision: 3, body: "a3" } }, Entry { key: Key { kind: 7, namespace: "default", name: "b" }, object: Object { revision: 4, body: "b4" } }])
+both c c => Ok(6)
+changes 2 => Ok([Change { revision: 3, key: Key { kind: 7, namespace: "default", name: "a" }, body: Some("a3") }, Change { revision: 4, key: Key { kind: 7, namespace: "default", name: "b" }, body: Some("b4") }, Change { revision: 5, key: Key { kind: 7, namespace: "default", name: "c" }, body: Some("c") }])
+
+store 1 a_list_where_two_wait
+both b b => Ok(3)
+many a 2 1 => 5
+again list - 4 => true
+numbers => (5, 1)
+changes 1 => Ok([Change { revision: 2, key: Key { kind: 7, namespace: "default", name: "b" }, body: Some("b") }, Change { revision: 4, key: Key { kind: 7, namespace: "default", name: "a" }, body: Some("m") }, Change { revision: 5, key: Key { kind: 7, namespace: "default", name: "a" }, body: Some("m") }])
+list 4 => Ok([Entry { key: Key { kind: 7, namespace: "default", name: "a" }, object: Object { revision: 4, body: "m" } }, Entry { key: Key { kind: 7, namespace: "default", name: "b" }, object: Object { revision: 2, body: "b" } }, Entry { key: Key { kind: 7, namespace: "other", name: "b" }, object: Object { revision: 3, body: "b" } }])
+list 5 => Ok([Entry { key: Key { kind: 7, namespace: "default", name: "a" }, object: Object { revision: 5, body: "m" } }, Entry { key: Key { kind: 7, namespace: "default", name: "b" }, object: Object { revision: 2, body: "b" } }, Entry { key: Key { kind: 7, namespace: "other", name: "b" }, object: Object { revision: 3, body: "b" } }])
+get a => Ok(Some(Object { revision: 5, body: "m" }))
+
+store 1 a_look_at_a_key_where_two_wait
+both b b => Ok(3)
+many a 2 1 => 5
+again get a - => true
+numbers => (5, 1)
+changes 1 => Ok([Change { revision: 2, key: Key { kind: 7, namespace: "default", name: "b" }, body: Some("b") }, Change { revision: 4, key: Key { kind: 7, namespace: "default", name: "a" }, body: Some("m") }, Change { revision: 5, key: Key { kind: 7, namespace: "default", name: "a" }, body: Some("m") }])
+list 4 => Ok([Entry { key: Key { kind: 7, namespace: "default", name: "a" }, object: Object { revision: 4, body: "m" } }, Entry { key: Key { kind: 7, namespace: "default", name: "b" }, object: Object { revision: 2, body: "b" } }, Entry { key: Key { kind: 7, namespace: "other", name: "b" }, object: Object { revision: 3, body: "b" } }])
+list 5 => Ok([Entry { key: Key { kind: 7, namespace: "default", name: "a" }, object: Object { revision: 5, body: "m" } }, Entry { key: Key { kind: 7, namespace: "default", name: "b" }, object: Object { revision: 2, body: "b" } }, Entry { key: Key { kind: 7, namespace: "other", name: "b" }, object: Object { revision: 3, body: "b" } }])
+get a => Ok(Some(Object { revision: 5, body: "m" }))
+
+store 1 changes_where_two_wait
+both b b => Ok(3)
+many a 2 1 => 5
+again changes - 1 => true
+numbers => (5, 1)
+changes 1 => Ok([Change { revision: 2, key: Key { kind: 7, namespace: "default", name: "b" }, body: Some("b") }, Change { revision: 4, key: Key { kind: 7, namespace: "default", name: "a" }, body: Some("m") }, Change { revision: 5, key: Key { kind: 7, namespace: "default", name: "a" }, body: Some("m") }])
+list 4 => Ok([Entry { key: Key { kind: 7, namespace: "default", name: "a" }, object: Object { revision: 4, body: "m" } }, Entry { key: Key { kind: 7, namespace: "default", name: "b" }, object: Object { revision: 2, body: "b" } }, Entry { key: Key { kind: 7, namespace: "other", name: "b" }, object: Object { revision: 3, body: "b" } }])
+list 5 => Ok([Entry { key: Key { kind: 7, namespace: "default", name: "a" }, object: Object { revision: 5, body: "m" } }, Entry { key: Key { kind: 7, namespace: "default", name: "b" }, object: Object { revision: 2, body: "b" } }, Entry { key: Key { kind: 7, namespace: "other", name: "b" }, object: Object { revision: 3, body: "b" } }])
+get a => Ok(Some(Object { revision: 5, body: "m" }))
+
+store 1 a_compaction_where_two_wait
+both b b => Ok(3)
+many a 2 1 => 5
+again compact - 4 => true
+numbers => (5, 4)
+list 3 => Err(Expired)
+list 4 => Ok([Entry { key: Key { kind: 7, namespace: "default", name: "a" }, object: Object { revision: 4, body: "m" } }, Entry { key: Key { kind: 7, namespace: "default", name: "b" }, object: Object { revision: 2, body: "b" } }, Entry { key: Key { kind: 7, namespace: "other", name: "b" }, object: Object { revision: 3, body: "b" } }])
+list 5 => Ok([Entry { key: Key { kind: 7, namespace: "default", name: "a" }, object: Object { revision: 5, body: "m" } }, Entry { key: Key { kind: 7, namespace: "default", name: "b" }, object: Object { revision: 2, body: "b" } }, Entry { key: Key { kind: 7, namespace: "other", name: "b" }, object: Object { revision: 3, body: "b" } }])
+changes 4 => Ok([Change { revision: 5, key: Key { kind: 7, namespace: "default", name: "a" }, body: Some("m") }])"#;
+
+#[test]
+fn waiting_writes_that_are_refused_memory(rt: HostRuntime) -> Result<(), Fail> {
+    play_each(rt.alloc(), WAITING)
 }
