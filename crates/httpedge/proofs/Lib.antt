@@ -21,3 +21,4 @@ pub mod Untaken
 pub mod Growing
 pub mod Handed
 pub mod NextIds
+pub mod NextTurns

@@ -9,7 +9,9 @@ ghost use Rattle.verbs.specs.Views.{ApiRepresents};
 ghost use Rattle.httpedge.specs.ChangeViews.{MakesRepresented, takes_memory_on};
 ghost use Rattle.httpedge.specs.Connections as model;
 ghost use Rattle.httpedge.specs.Connections.{Connections, ended, gone, open_count, new_connection, with_phase, with_taken};
-ghost use Rattle.httpedge.specs.ConnectionViews.{Becomes, ConnectionRepresents, ReceivesRepresented, has_ended_in, is_open_in, is_waiting_in, out_in, had_ended_if_over_in};
+ghost use Rattle.httpedge.specs.ConnectionViews.{Becomes, ConnectionRepresents, ReceivesRepresented, has_ended_in, is_open_in, is_waiting_in, out_in, had_ended_if_over_in, phase_in};
+ghost use Rattle.httpedge.specs.HubViews.{event_of};
+ghost use Rattle.httpedge.specs.NextTurns.{turn_in};
 ghost use Rattle.requests.specs.ReadBufferViews.{buffered};
 ghost use Rattle.requests.specs.Pendings.{Awaits, Finds};
 ghost use Rattle.httpedge.specs.SharedViews.{SharedRepresents};
@@ -19,7 +21,7 @@ ghost use Rattle.requests.specs.Replies.{answer_bytes};
 ghost use Rattle.watchline.specs.Views.{watch_from};
 
 use crate::answering::{CallReply, serve};
-use crate::event::ConnectionInput;
+use crate::event::{ConnectionInput, Event};
 use crate::out::Out;
 use crate::shared::Shared;
 use crate::turns::pump_on;
@@ -110,6 +112,22 @@ pub(crate) fn out_of(connection: &Connection) -> &[u8]
         Connection::Watch(_, out) => out.left(),
         Connection::Ended(out) => out.left(),
         Connection::Head(_) | Connection::Body(_) | Connection::Closed(_) => &[],
+    }
+}
+
+/// The event that gives a connection its next turn, by its id, the current revision and the last tick.
+pub(crate) fn next_turn(
+    connection: &Connection,
+    id: u64,
+    current: u64,
+    last_tick: u64,
+) -> Option<Event>
+    ensures { option_map event_of result ≡ turn_in id current last_tick (phase_in connection.now) }
+{
+    match connection {
+        Connection::Watch(watch, _) => watch.next_turn(id, current, last_tick),
+        Connection::Head(_) | Connection::Body(_) => None,
+        Connection::Ended(_) | Connection::Closed(_) => None,
     }
 }
 

@@ -1,7 +1,7 @@
 //! All connections that were ever opened, by their ids: those that are open, and those that are over, of which ranges of ids
 //! are left. How one of them changes stands in `connection`, how all have their turn at a tick in `ticking`.
 
-ghost use Rattle.std.specs.Prelude.{◌≡◌, ◌≢◌, [], ℕ, Bool, List, None, Some, Err, true, false, cond, is_some, unwrap_or, option_map, OnOk, OnErr};
+ghost use Rattle.std.specs.Prelude.{◌≡◌, ◌≢◌, [], ℕ, Bool, List, None, Some, Err, true, false, cond, is_some, unwrap_or, option_and_then, option_map, OnOk, OnErr};
 ghost use Rattle.std.specs.BTreeMap.{get};
 ghost use Rattle.std.specs.Ordering.{nat_cmp};
 ghost use Rattle.api_types.specs.TypesFile.{ServedShape};
@@ -9,9 +9,10 @@ ghost use Rattle.history.specs.History.{History};
 ghost use Rattle.httpedge.specs.ChangeViews.{Changes};
 ghost use Rattle.httpedge.specs.Connections.{Connection as TheConnection};
 ghost use Rattle.httpedge.specs.Connections.{open_count, with_taken};
-ghost use Rattle.httpedge.specs.ConnectionViews.{BecomesAt, OpenIdsAfter, Forgets, ConnectionRepresents, IsApart, IsAt, IsFresh, IsSame, Opens, PartsRepresent, found, has_ended_in, is_waiting_in, kept_in, out_in, had_ended_if_over_in, had_ended_by_ids};
-ghost use Rattle.httpedge.specs.HubViews.{done, outcome_of, refusal_in, refused};
+ghost use Rattle.httpedge.specs.ConnectionViews.{BecomesAt, OpenIdsAfter, Forgets, ConnectionRepresents, IsApart, IsAt, IsFresh, IsSame, Opens, PartsRepresent, found, has_ended_in, is_waiting_in, kept_in, out_in, had_ended_if_over_in, had_ended_by_ids, phase_in};
+ghost use Rattle.httpedge.specs.HubViews.{done, event_of, outcome_of, refusal_in, refused};
 ghost use Rattle.httpedge.specs.IdViews.{is_in};
+ghost use Rattle.httpedge.specs.NextTurns.{turn_in};
 ghost use Rattle.httpedge.specs.SharedViews.{SharedRepresents};
 ghost use Rattle.httpedge.specs.Steps.{State, start, unknown_id};
 ghost use Rattle.httpedge.specs.TickViews.{TicksIn};
@@ -21,9 +22,10 @@ ghost use Rattle.httpedge.specs.declared.fault.HubFault.TheVariants as fault;
 ghost use Rattle.httpedge.specs.declared.shared.Shared as shares;
 
 use crate::connection::{
-    Connection, change, had_ended_if_over, has_ended, is_open, is_waiting, out_of, take_from,
+    Connection, change, had_ended_if_over, has_ended, is_open, is_waiting, next_turn, out_of,
+    take_from,
 };
-use crate::event::ConnectionInput;
+use crate::event::{ConnectionInput, Event};
 use crate::fault::HubFault;
 use crate::ids::Ids;
 use crate::shared::Shared;
@@ -122,6 +124,16 @@ impl Connections {
         match self.held.get(&id) {
             Some(connection) => is_waiting(connection),
             None => false,
+        }
+    }
+
+    /// The event that gives a connection its next turn, by the current revision and the last tick; none for an unknown id.
+    pub(crate) fn next_turn(&self, id: u64, current: u64, last_tick: u64) -> Option<Event>
+        ensures { option_map event_of result ≡ option_and_then (λ d. turn_in id current last_tick (phase_in d)) (found self.now id) }
+    {
+        match self.held.get(&id) {
+            Some(connection) => next_turn(connection, id, current, last_tick),
+            None => None,
         }
     }
 

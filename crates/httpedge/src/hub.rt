@@ -1,6 +1,6 @@
 //! The hub: an API and its connections, which events change. The connections stand in `connections`.
 
-ghost use Rattle.std.specs.Prelude.{◌≡◌, ◌≢◌, ◌++◌, ◌∷◌, [], ℕ, List, Some, None, true, false, Err, Ok, OnOk, OnErr};
+ghost use Rattle.std.specs.Prelude.{◌≡◌, ◌≢◌, ◌++◌, ◌∷◌, [], ℕ, List, Some, None, true, false, Err, Ok, OnOk, OnErr, option_map};
 ghost use Rattle.api_types.specs.TypesFile.{ServedShape};
 ghost use Rattle.history.specs.History.{History};
 ghost use Rattle.verbs.specs.Views.{ApiRepresents};
@@ -9,6 +9,7 @@ ghost use Rattle.httpedge.specs.Connections.{ended_on, next_id, out_on, waiting_
 ghost use Rattle.httpedge.specs.ConnectionViews.{is_above, kept_in};
 ghost use Rattle.serde_json.specs.View.{view};
 ghost use Rattle.httpedge.specs.HubViews.{StepsOrRefuses, IsActionOf, HubRepresents, ReportsOutcome, ReportsFile, asks_store, event_of, outcome_of, refusal_in};
+ghost use Rattle.httpedge.specs.NextTurns.{next_turn};
 ghost use Rattle.httpedge.specs.Runs.{Follows, Action, Runs, Steps, takes};
 ghost use Rattle.httpedge.specs.declared.event.ConnectionInput.TheVariants as changes;
 ghost use Rattle.httpedge.specs.Steps.{State, compacts, opens, pumps, retypes, start, ticks, with_bytes_taken};
@@ -200,6 +201,18 @@ impl Hub {
         ensures { (s : State) → HubRepresents self.now s → result ≡ waiting_on s.connections id }
     {
         self.connections.is_waiting(id)
+    }
+
+    /// The event that gives the watch on a connection its next turn: a pump for all changes while it stands before the
+    /// current revision, else a tick at which the clock stands still while a bookmark is due. None where it has neither, on a
+    /// connection that doesn't watch, and for an unknown id.
+    pub fn next_turn(&self, id: u64) -> Option<Event>
+        ensures { (s : State) → HubRepresents self.now s → option_map event_of result ≡ next_turn s id }
+    {
+        let Ok((current, _)) = self.marks() else {
+            return None;
+        };
+        self.connections.next_turn(id, current, self.last_tick)
     }
 
     /// The id after those of all connections that were ever opened: 1 at the start, none where no id is left.

@@ -7,10 +7,13 @@ ghost use Rattle.history.specs.History.{History};
 ghost use Rattle.verbs.specs.Views.{ApiRepresents};
 ghost use Rattle.watchline.specs.Views.{watch_from};
 ghost use Rattle.httpedge.specs.ConnectionViews.{Turns, left, watch_of};
+ghost use Rattle.httpedge.specs.HubViews.{event_of};
+ghost use Rattle.httpedge.specs.NextTurns.{turn_of};
 ghost use Rattle.requests.specs.ReplyBytes.{chunks};
 ghost use Rattle.httpedge.specs.SharedViews.{SharedRepresents};
 ghost use Rattle.httpedge.specs.Watches.{begun_at, is_due, has_timed_out, line_list, pumped, ticked};
 
+use crate::event::Event;
 use crate::out::Out;
 use crate::shared::Shared;
 use requests::{push_chunk, push_end};
@@ -65,6 +68,19 @@ impl Watch {
         ensures { result ≡ has_timed_out ms (watch_of self.now) }
     {
         self.timeout > 0 && has_passed(self.timeout, ms.saturating_sub(self.opened_at))
+    }
+
+    /// The event that gives it its next turn on the connection of this id, by the current revision and the last tick.
+    pub(crate) fn next_turn(&self, id: u64, current: u64, last_tick: u64) -> Option<Event>
+        ensures { option_map event_of result ≡ turn_of id current last_tick (watch_of self.now) }
+    {
+        if self.cursor.is_before(current) {
+            return Some(Event::Pump(id, current));
+        }
+        if self.cursor.is_bookmark_due() {
+            return Some(Event::Tick(last_tick));
+        }
+        None
     }
 
     /// Its turn at a pump; whether it has ended. Out of memory, it writes nothing more.

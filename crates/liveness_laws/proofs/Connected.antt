@@ -60,7 +60,7 @@ to_clients : (wanted : Wanted) (w v : World) (n : ℕ) (own : Option ClientConne
 to_clients wanted w v n None is h = same w v is h
 to_clients wanted w v n (Some own) comes h = hands wanted w v own (take n (drop own.handed (reply_on w own))) comes h
 
-closed_silent : (c : Client) → (closed c).is_awaiting_reply ≡ false
+pub closed_silent : (c : Client) → (closed c).is_awaiting_reply ≡ false
 closed_silent c = go c.is_awaiting_reply refl
   where
     go : (b : Bool) → c.is_awaiting_reply ≡ b → (cond b (record c { sync = after_cut c.sync; is_awaiting_reply = false }) c).is_awaiting_reply ≡ false

@@ -13,7 +13,7 @@ use Rattle.httpedge.specs.Connections.{Connection, Connections, ended, has_ended
 use Rattle.httpedge.specs.Runs as runs
 use Rattle.httpedge.specs.Steps as edge
 use Rattle.liveness_laws.proofs.Hub.{goes_so, left_by, left_count, left_new, opens_so}
-use Rattle.liveness_laws.specs.Moves.{Pursues, is_at, is_old, move_on, next_move, wait_on}
+use Rattle.world_laws.specs.Moves.{Pursues, is_at, is_old, move_on, next_move, wait_on}
 use Rattle.reflector.specs.Client.{Cache, Client, Notice, SyncPhase}
 use Rattle.reflector.specs.Requests.{request_of}
 use Rattle.reflector.specs.Run.{asked, closed, receives_all, taken}

@@ -32,7 +32,7 @@ use Rattle.liveness_laws.proofs.Reaching.{IsAfterRun, Lasts, after_run, ready}
 use Rattle.liveness_laws.proofs.Restart.{revision_comes}
 use Rattle.liveness_laws.proofs.Rounds.{new_is_other, stays}
 use Rattle.liveness_laws.specs.Listable.{FitsIn, HasRoom, IsListable, watch_request}
-use Rattle.liveness_laws.specs.Moves.{Pursues}
+use Rattle.world_laws.specs.Moves.{Pursues}
 use Rattle.liveness_laws.specs.Progress.{ComesAnew, ExpiredWatchesAreGivenUp, RevisionComes}
 use Rattle.world_laws.proofs.Passes.{IsWatchCall, task_watch, watch_values}
 use Rattle.world_laws.specs.Headline.{Headline}
@@ -180,6 +180,8 @@ module _ (laws : Laws) (task : Task) (s : edge.State) (requested : List ℕ) (no
         comes = list;
         kept = refl;
         machine = list.machine;
+        types = list.types;
+        tick = list.tick;
         others = λ q c got isnt. list.others q c (stays task s all own id q c replied is_next got isnt) (ne_eqb id q (λ same. new_is_other task s all id q c is_next got (sym same)));
       }
 

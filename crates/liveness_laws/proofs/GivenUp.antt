@@ -13,7 +13,7 @@ use Rattle.liveness_laws.proofs.Reaching.{IsAfterRun, Lasts, after_run, ready}
 use Rattle.liveness_laws.proofs.Restart.{left_highest, revision_comes}
 use Rattle.liveness_laws.proofs.Rounds.{left_stays, new_is_other, stays}
 use Rattle.liveness_laws.specs.Listable.{FitsIn, HasRoom, IsListable}
-use Rattle.liveness_laws.specs.Moves.{Pursues, is_at, move_on, next_move}
+use Rattle.world_laws.specs.Moves.{Pursues, is_at, move_on, next_move}
 use Rattle.liveness_laws.specs.Progress.{ComesAnew, PastListsAreGivenUp, RevisionComes}
 use Rattle.reflector.specs.Client.{Cache, Notice, SyncPhase, first, next}
 use Rattle.reflector.specs.Requests.{request_of}
@@ -94,6 +94,8 @@ module _ (laws : Laws) (task : Task) (w : World) (revision : ℕ) (token : List 
         comes = list;
         kept = refl;
         machine = list.machine;
+        types = list.types;
+        tick = list.tick;
         others = λ q c got isnt. list.others q c (left_stays task s all (Some own) q isnt ∙ got) refl;
       }
 
@@ -158,6 +160,8 @@ module _ (laws : Laws) (task : Task) (w : World) (revision : ℕ) (token : List 
           comes = list;
           kept = refl;
           machine = list.machine;
+          types = list.types;
+          tick = list.tick;
           others = λ q c got isnt.
               list.others q c (left_elsewhere opened first_own q (new_is_other task s all id q c is_next got) ∙ stays task s all own id q c new_connection is_next got isnt) refl;
         }

@@ -79,7 +79,7 @@ put_count id c (e ∷ es) = go (nat_cmp id e.0) (put_count id c es)
         let old : opens_in (e ∷ es) ≡ one_if (is_open e.1.phase) + opens_in es = opens_first e es in
         omega (arith, first, old, rest)
 
-insert_count : (all : Connections) (id : ℕ) (c : Connection) → open_count (fin.insert all id c) ≤ open_count all + one_if (is_open c.phase)
+pub insert_count : (all : Connections) (id : ℕ) (c : Connection) → open_count (fin.insert all id c) ≤ open_count all + one_if (is_open c.phase)
 insert_count all id c = subst (λ (es : Entries). opens_in es ≤ open_count all + one_if (is_open c.phase)) (sym (fin.entries-insert nat_cmp_total all id c)) (put_count id c (fin.entries all))
 
 -- one that isn't open adds none

@@ -11,7 +11,7 @@ use Rattle.liveness_laws.proofs.Exchange.{asking, leaves_so}
 use Rattle.liveness_laws.proofs.Hub.{left_by, left_count, left_new}
 use Rattle.liveness_laws.proofs.Rounds.{Entries, IsBefore, PageComes, left_stays, list_comes, room_for}
 use Rattle.liveness_laws.specs.Listable.{FitsIn, HasRoom, listed_now}
-use Rattle.liveness_laws.specs.Moves.{Pursues, is_at}
+use Rattle.world_laws.specs.Moves.{Pursues, is_at}
 use Rattle.liveness_laws.specs.Progress.{ReportComes, RevisionComes}
 use Rattle.reflector.specs.Client.{Cache, Client, Notice, SyncPhase, first, fresh}
 use Rattle.reflector.specs.Run.{ascends_within_limit}
@@ -35,7 +35,7 @@ left_highest all w =
     let low : highest (fin.keys (left_by all w.connection)) < id = below_all (fin.keys (left_by all w.connection)) id (omega arith) new in
     omega (arith, low)
 
-room_is : (n size : ℕ) → n * size ≡ room_for n size
+pub room_is : (n size : ℕ) → n * size ≡ room_for n size
 room_is zero size = omega arith
 room_is (suc n) size = suc-mul n size ∙ (let rest : n * size ≡ room_for n size = room_is n size in omega (arith, rest))
 
@@ -106,6 +106,8 @@ module _ (task : Task) (w : World) where
         runs = begins i list.moves list.end _ (pursues_run task (suc i) begun list.moves list.end _ pursues);
         is_current = list.is_current;
         machine = list.machine;
+        types = list.types;
+        tick = list.tick;
         others = λ q c got isnt. list.others q c (left_stays task w.hub w.hub.connections w.connection q isnt ∙ got) refl;
       }
 

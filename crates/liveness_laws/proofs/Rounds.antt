@@ -20,7 +20,7 @@ use Rattle.liveness_laws.proofs.Client.{GoesFrom, page_received}
 use Rattle.liveness_laws.proofs.Exchange.{asking, pursued, unreported}
 use Rattle.liveness_laws.proofs.Hub.{closed_count, highest_after, left_by, left_count, left_elsewhere, next_is}
 use Rattle.liveness_laws.specs.Listable.{list_request, listed_now}
-use Rattle.liveness_laws.specs.Moves.{Pursues, is_at, is_old}
+use Rattle.world_laws.specs.Moves.{Pursues, is_at, is_old}
 use Rattle.liveness_laws.specs.Progress.{RevisionComes, is_own}
 use Rattle.reflector.specs.Client as client
 use Rattle.reflector.specs.Client.{Cache, Client, Notice, SyncPhase, first, streaming, next}
@@ -287,6 +287,8 @@ module _ (task : Task) (h : edge.State) where
             transfers = refl;
             bound = omega arith;
             machine = refl;
+            types = refl;
+            tick = refl;
             others = others_stay;
           }
 
@@ -357,6 +359,8 @@ module _ (task : Task) (h : edge.State) where
               transfers = rest.transfers;
               bound = omega (arith, few);
               machine = rest.machine;
+              types = rest.types;
+              tick = rest.tick;
               others = λ q c got isnt. rest.others q c (others_stay q c got isnt) (is_new_own q c got);
             }
           where

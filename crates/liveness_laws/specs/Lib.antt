@@ -1,3 +1,4 @@
+pub mod Leading
 pub mod Listable
-pub mod Moves
 pub mod Progress
+pub mod Telling

@@ -9,7 +9,7 @@ use Rattle.httpedge.specs.Connections.{Connection}
 use Rattle.indexer.specs.Objects.{Stored}
 use Rattle.reflector.specs.Client.{Cache, first, next, streaming}
 use Rattle.liveness_laws.specs.Listable.{FitsIn, HasRoom, IsListable, watch_request}
-use Rattle.liveness_laws.specs.Moves.{Pursues, is_current}
+use Rattle.world_laws.specs.Moves.{Pursues, is_current}
 use Rattle.world_laws.specs.Reports.{Report, Runs, reports_between}
 use Rattle.world_laws.specs.Tasks.{IsTask, Task}
 use Rattle.world_laws.specs.World.{ClientConnection, Steps, World, WorldEvent, cut, other, reconcile, request, restart, send, start, to_client, to_server}
@@ -39,7 +39,7 @@ is_transfer reconcile = false
 -- ---- what the schedule leads to
 
 -- the moves of the schedule, at most three for each page of the list, lead to the machine's current revision, which is reported with the last of them
--- where it is the client's first or has risen. The machine is as it was, and so is each other peer's connection
+-- where it is the client's first or has risen. The machine, its types and the clock are as they were, and so is each other peer's connection
 pub record RevisionComes (task : Task) (i : ℕ) (w : World) (pages : ℕ) : Type 0 where
   pub moves : List WorldEvent
   pub end : World
@@ -52,6 +52,8 @@ pub record RevisionComes (task : Task) (i : ℕ) (w : World) (pages : ℕ) : Typ
   pub transfers : list_all is_transfer moves ≡ true
   pub bound : length moves ≤ 3 * pages
   pub machine : end.hub.machine ≡ w.hub.machine
+  pub types : end.hub.types ≡ w.hub.types
+  pub tick : end.hub.last_tick ≡ w.hub.last_tick
   pub others : OthersStay w end
 
 -- the same after a restart: there is one report
@@ -62,6 +64,8 @@ pub record ReportComes (task : Task) (i : ℕ) (w : World) (pages : ℕ) : Type 
   pub runs : Runs task i w (restart ∷ comes.moves) comes.end (record { event = i + length comes.moves; machine = w.hub.machine; now = comes.now } ∷ [])
   pub is_current : comes.now.revision ≡ w.hub.machine.current
   pub machine : comes.end.hub.machine ≡ w.hub.machine
+  pub types : comes.end.hub.types ≡ w.hub.types
+  pub tick : comes.end.hub.last_tick ≡ w.hub.last_tick
   pub others : OthersStay w comes.end
 
 -- From the world after any run, whatever the client was doing in it.
@@ -94,6 +98,8 @@ pub record ComesAnew (task : Task) (i : ℕ) (w : World) (pages : ℕ) : Type 0 
   pub comes : RevisionComes task number mid pages
   pub kept : mid.client.cache ≡ w.client.cache
   pub machine : comes.end.hub.machine ≡ w.hub.machine
+  pub types : comes.end.hub.types ≡ w.hub.types
+  pub tick : comes.end.hub.last_tick ≡ w.hub.last_tick
   pub others : OthersStay w comes.end
 
 -- Without a restart, where the client is in the middle of a list of another revision than the machine has, between two pages or in one: its connection is cut, and the list begins anew. Between

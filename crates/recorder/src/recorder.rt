@@ -1,5 +1,5 @@
 //! A hub whose written bytes stay: what was written on a connection is kept when its peer goes.
-ghost use Rattle.std.specs.Prelude.{◌≡◌, ℕ, List, false, IfOk, OnOk, option_map};
+ghost use Rattle.std.specs.Prelude.{◌≡◌, ℕ, List, false, Ok, IfOk, OnOk, option_map};
 ghost use Rattle.std.specs.BTreeMap.{get};
 ghost use Rattle.std.specs.Ordering.{nat_cmp, eq_by_cmp};
 ghost use Rattle.api_types.specs.TypesFile.{ServedShape};
@@ -7,6 +7,7 @@ ghost use Rattle.history.specs.History.{History};
 ghost use Rattle.verbs.specs.Views.{ApiRepresents};
 ghost use Rattle.httpedge.specs.Connections.{ended_on, next_id, written_on};
 ghost use Rattle.httpedge.specs.HubViews.{HubRepresents, event_of};
+ghost use Rattle.httpedge.specs.NextTurns.{next_turn};
 ghost use Rattle.httpedge.specs.Runs.{Steps, peer_goes};
 ghost use Rattle.httpedge.specs.Steps.{State, goes, start};
 ghost use Rattle.recorder.specs.Recorded.{RecorderRepresents, ReportsRefusal, kept_after};
@@ -15,7 +16,7 @@ use crate::fault::RecorderFault;
 use httpedge::{Event, Hub, HubFault};
 use std::alloc::{AllocError, Global};
 use std::collections::BTreeMap;
-use verbs::Api;
+use verbs::{Api, Fault};
 
 /// Hands an event to the hub: why it was refused, if it was.
 fn refused_by(hub: &mut Hub, event: &Event) -> Result<Option<HubFault>, RecorderFault>
@@ -123,6 +124,20 @@ impl Recorder {
         ensures { (s : State) → RecorderRepresents self.now s → result ≡ ended_on s.connections id }
     {
         self.hub.ended(id)
+    }
+
+    /// The event that gives the watch on a connection its next turn, as `Hub::next_turn` says.
+    pub fn next_turn(&self, id: u64) -> Option<Event>
+        ensures { (s : State) → RecorderRepresents self.now s → option_map event_of result ≡ next_turn s id }
+    {
+        self.hub.next_turn(id)
+    }
+
+    /// The current revision and the compacted number.
+    pub fn marks(&self) -> Result<(u64, u64), Fault>
+        ensures { (s : State) → RecorderRepresents self.now s → result ≡ Ok (s.machine.current, s.machine.compacted) }
+    {
+        self.hub.marks()
     }
 
     /// The id after those of all connections that were ever opened: 1 at the start, none where no id is left.

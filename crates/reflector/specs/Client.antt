@@ -39,6 +39,12 @@ pub data SyncPhase : Type 0 where
   -- a watch from the cache's revision
   streaming : SyncPhase
 
+-- the revision of the list in whose middle it is
+abbrev pub list_revision : SyncPhase → Option ℕ
+list_revision first = None
+list_revision (next revision token paged_list) = Some revision
+list_revision streaming = None
+
 -- is_awaiting_reply: a request is under way. The notices are those that weren't taken yet
 pub record Client : Type 0 where
   pub cache : Option Cache

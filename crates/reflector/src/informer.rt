@@ -32,7 +32,7 @@ impl<I: IndexBy> Informer<I> {
     ghost use Rattle.indexer.specs.Indexer.{indexed_objects_of, indexes_of, names_of};
     ghost use Rattle.wireclient.specs.Reads.{Items};
     ghost use Rattle.wireclient.specs.Reply.{ReplyItem};
-    ghost use Rattle.reflector.specs.Client.{Client, fresh, kept};
+    ghost use Rattle.reflector.specs.Client.{Client, fresh, kept, list_revision};
     ghost use Rattle.reflector.specs.Faults.{fault_in};
     ghost use Rattle.reflector.specs.InformerViews.{InformerRepresents, due, indexes_in, names_in, settings_in, relist_reason_in};
     ghost use Rattle.reflector.specs.MirrorViews.{keyed};
@@ -179,6 +179,14 @@ impl<I: IndexBy> Informer<I> {
         ensures { (c : Client) (bytes : List ℕ) (emitted : List ReplyItem) → InformerRepresents I.keys self.now c bytes emitted → result ≡ option_map (λ now. now.revision) c.cache }
     {
         self.mirror.revision
+    }
+
+    /// The revision of the list in whose middle it is, between two pages or in one; None where it asks for the first page, and
+    /// where it watches.
+    pub fn list_revision(&self) -> Option<u64>
+        ensures { (c : Client) (bytes : List ℕ) (emitted : List ReplyItem) → InformerRepresents I.keys self.now c bytes emitted → result ≡ list_revision c.sync }
+    {
+        self.sync.list_revision()
     }
 
     /// What was added, updated and deleted since the last call, the start or the last restart, in order and each once.

@@ -1,6 +1,7 @@
 //! What an informer asks for, now or next: a page of a list, or a watch. The bytes of the request stand in `requests`.
 
 ghost use Rattle.std.specs.Prelude.{◌≡◌};
+ghost use Rattle.reflector.specs.Client.{list_revision};
 ghost use Rattle.reflector.specs.ReceivedViews.{is_streaming};
 ghost use Rattle.reflector.specs.Views.{sync_of};
 
@@ -22,5 +23,15 @@ impl SyncPhase {
         ensures { result ≡ is_streaming (sync_of self.now) }
     {
         matches!(self, SyncPhase::Streaming)
+    }
+
+    /// The revision of the list in whose middle it is.
+    pub(crate) fn list_revision(&self) -> Option<u64>
+        ensures { result ≡ list_revision (sync_of self.now) }
+    {
+        match self {
+            SyncPhase::Next(revision, _, _) => Some(*revision),
+            SyncPhase::First | SyncPhase::Streaming => None,
+        }
     }
 }

@@ -1,6 +1,6 @@
 //! The cursor of a watch: its selection and its position, and the calls on it. What a pump sends stands in `sending`.
 
-ghost use Rattle.std.specs.Prelude.{◌≡◌, false, IfOk, IfSome, IsTrue, None, Ok, OnErr, Some, is_some, option_map, string_bytes};
+ghost use Rattle.std.specs.Prelude.{◌≡◌, false, IfOk, IfSome, IsTrue, None, Ok, OnErr, Some, is_some, nat_lt, option_map, string_bytes};
 ghost use Rattle.watchline.specs.Opening.{first_cursor, left_of, sent_of};
 ghost use Rattle.watchline.specs.Watches.{bookmarked, from_view, is_bookmark_due, is_none_left, moved, pumped, with_bookmarks};
 ghost use Rattle.watchline.specs.Views.{initial_left_of, bookmark_turn, turn_of, watch_from};
@@ -172,6 +172,13 @@ impl WatchCursor {
         ensures { result ≡ self.now.kind }
     {
         self.scope.kind
+    }
+
+    /// Whether it stands before a revision, so that changes up to there may be left to be sent.
+    pub fn is_before(&self, revision: u64) -> bool
+        ensures { result ≡ nat_lt self.now.position revision }
+    {
+        self.progress.position < revision
     }
 
     /// Whether a bookmark is due: the watch sends bookmarks, it stands past what the client was sent, and no object is

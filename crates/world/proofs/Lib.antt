@@ -5,6 +5,7 @@ pub mod Ids
 pub mod Indexed
 pub mod Joining
 pub mod Marking
+pub mod NextMoves
 pub mod Refusals
 pub mod Reports
 pub mod Shots

@@ -8,3 +8,4 @@ pub mod Shown
 pub mod Represents
 pub mod Stepping
 pub mod Traces
+pub mod Moving

@@ -5,8 +5,9 @@
 //! Promises: the trace of a run is that of its definition: what was written on each connection, and a report for each
 //! event after which the client's revision is the first, or has risen, with the client's objects, each index of them and
 //! their counts by a label. Each report is right: its objects are exactly the server's at its revision, and no report is
-//! of a lower one than one before it. An event that is taken by itself adds to the trace what it did, and one that can't happen is refused
-//! with its reason and changes nothing. Settings that can't be had are refused by their least fault.
+//! of a lower one than one before it. An event that is taken by itself adds to the trace what it did, and one that can't
+//! happen is refused with its reason and changes nothing. The next move by which the client comes to the server's revision is
+//! that of its definition, and moves are made until it is there. Settings that can't be had are refused by their least fault.
 //! Stands on `recorder` for the server, `reflector` for the client, `indexer` and `summary` for what is reported.
 #![tactic(auto)]
 
@@ -15,6 +16,8 @@ mod event;
 mod fault;
 mod indexes;
 mod link;
+mod moves;
+mod moving;
 mod refusal;
 mod reporting;
 mod running;
@@ -28,6 +31,7 @@ mod world;
 pub use event::WorldEvent;
 pub use fault::WorldFault;
 pub use link::{Link, LinkFault, OverMemory};
+pub use moves::Moves;
 pub use refusal::Refusal;
 pub use running::{run, run_over};
 pub use settings::Settings;

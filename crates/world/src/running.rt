@@ -26,7 +26,7 @@ use indexer::IndexBy;
 use std::alloc::Global;
 
 /// Keeps a report, if there is one.
-fn push_report(reports: &mut Vec<Report>, report: Option<Report>) -> Result<(), RunFault>
+pub(crate) fn push_report(reports: &mut Vec<Report>, report: Option<Report>) -> Result<(), RunFault>
     ensures pushed { OnOk result (reports.new.items ≡ reports.old.items ++ option_to_list report) }
     ensures link { result ≢ Err RunFault.Link }
 {

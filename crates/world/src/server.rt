@@ -1,12 +1,13 @@
 //! The server's side of a run: a hub that keeps what it wrote, and the ids of its connections. The client's side stands in
 //! `world`.
 
-ghost use Rattle.std.specs.Prelude.{◌≡◌, ◌≢◌, ◌++◌, ◌∷◌, ◌&&◌, [], not, Err, IfOk, OnOk, drop, map, option_map};
+ghost use Rattle.std.specs.Prelude.{◌≡◌, ◌≢◌, ◌++◌, ◌∷◌, ◌&&◌, [], not, Err, IfOk, OnOk, Some, drop, map, option_map};
 ghost use Rattle.std.specs.List.{filter};
 ghost use Rattle.api_types.specs.Served.{types_view};
 ghost use Rattle.history.specs.History.{fresh};
 ghost use Rattle.httpedge.specs.Connections.{ended_on, next_id, written_on};
 ghost use Rattle.httpedge.specs.HubViews.{event_of};
+ghost use Rattle.httpedge.specs.NextTurns.{next_turn};
 ghost use Rattle.httpedge.specs.Runs.{Steps};
 ghost use Rattle.httpedge.specs.Steps as edge;
 ghost use Rattle.recorder.specs.Recorded.{RecorderRepresents, ReportsRefusal};
@@ -234,6 +235,23 @@ impl Server {
         ensures { (s : edge.State) → Serves self.now s → result ≡ next_id s.connections }
     {
         self.recorder.next_id()
+    }
+
+    /// The machine's current revision, which there always is.
+    pub(crate) fn current(&self) -> Option<u64>
+        ensures { (s : edge.State) → Serves self.now s → result ≡ Some s.machine.current }
+    {
+        let Ok((current, _)) = self.recorder.marks() else {
+            return None;
+        };
+        Some(current)
+    }
+
+    /// The event that gives the watch on a connection its next turn.
+    pub(crate) fn next_turn(&self, id: u64) -> Option<Event>
+        ensures { (s : edge.State) → Serves self.now s → option_map event_of result ≡ next_turn s id }
+    {
+        self.recorder.next_turn(id)
     }
 
     /// All that was written on a connection.

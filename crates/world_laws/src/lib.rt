@@ -2,7 +2,8 @@
 //! nothing; what it promises is the law.
 //!
 //! `specs/Tasks` says what a run is asked for; `specs/World` what an event makes of the hub, the client and the connection
-//! between them; `specs/Reports` when the client reports, and when a report is right; `specs/Headline` that all are.
+//! between them; `specs/Reports` when the client reports, and when a report is right; `specs/Headline` that all are;
+//! `specs/Moves` what happens next for the client to come to the server's revision.
 #![tactic(auto)]
 
 mod listing;

@@ -103,8 +103,8 @@ fn push_step(
     text.push_str("; ")
 }
 
-/// The drawn events, and then a list for the client and one for another peer.
-fn drawn(alloc: Global) -> Result<Vec<WorldEvent>, Fail> {
+/// The steps of the drawn events, each with `; ` behind it.
+fn drawn_steps(alloc: Global) -> Result<String, Fail> {
     let count = STEPS.lines().count() as u64;
     let mut draws = Draws {
         last: 27,
@@ -119,8 +119,20 @@ fn drawn(alloc: Global) -> Result<Vec<WorldEvent>, Fail> {
         let step = STEPS.lines().nth(at).ok_or("no step")?;
         push_step(alloc, &mut text, &mut draws, step, place)?;
     }
+    Ok(text)
+}
+
+/// The drawn events, and then a list for the client and one for another peer.
+fn drawn(alloc: Global) -> Result<Vec<WorldEvent>, Fail> {
+    let mut text = drawn_steps(alloc)?;
     text.push_str("restart; send; server; client; ask GET /apis/demo.example/v1/widgets")?;
     events(alloc, text.as_str())
+}
+
+/// The drawn events alone.
+pub fn drawn_events(alloc: Global) -> Result<Vec<WorldEvent>, Fail> {
+    let text = drawn_steps(alloc)?;
+    events(alloc, text.as_str().strip_suffix("; ").ok_or("no step")?)
 }
 
 /// What was written on the connection of the last request of another peer.

@@ -2,6 +2,8 @@
 #![tactic(auto)]
 
 #[cfg(test)]
+mod catching_up;
+#[cfg(test)]
 mod cutting;
 #[cfg(test)]
 mod drawn;

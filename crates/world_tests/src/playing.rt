@@ -12,6 +12,7 @@
 //! | `index EVENT NAME` | the index of this name in the report of this event, each key with the objects that have it |
 //! | `text NAME` | the text of the object in the last report |
 //! | `carried` | the targets of the client's requests that the link carried |
+//! | `moves N` | no event; at most N moves of a world of its own after the events since `from`, by which its client comes to the current revision, and their reports: `MOVES -> REPORTS` (`catching_up`) |
 //! | `cuts WORD M N FRONT <- BACK` | no event; of runs of their own: the reports behind the events of FRONT, with `WORD M` to `WORD N` between these and those of BACK, each where it first comes (`cutting`) |
 //! | `fronts EXAMPLES` | no event; every prefix of each request of these examples comes, in runs of their own: how many different requests there are (`cutting`) |
 //!
@@ -19,6 +20,7 @@
 //! the event by its place among all, the object with its namespace before it where that isn't `default`. Bytes have `|`
 //! for a carriage return and `$` for a line feed; where nothing is to be shown it is `-`.
 
+use crate::catching_up::moves;
 use crate::cutting::{cuts, prefixes};
 use crate::events::events;
 use crate::given::{indexes, settings, types, value_of};
@@ -176,6 +178,7 @@ impl Answers for Play {
             }
             "carried" => targets(alloc, &self.link.carried),
             "anew" => self.goes_on(alloc, rest, true),
+            "moves" => moves(alloc, self.words.as_str(), self.steps.as_str(), rest),
             "cuts" => cuts(alloc, self.words.as_str(), rest),
             "fronts" => prefixes(alloc, rest),
             _ => self.goes_on(alloc, question, false),

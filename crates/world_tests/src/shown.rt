@@ -1,12 +1,13 @@
 //! How what a run shows is written in a row.
 
+use httpedge::Event;
 use indexer::{Object, ObjectKey};
 use std::alloc::{AllocError, Global};
 use std::collections::BTreeMap;
 use std::rc::Rc;
 use std::test::Fail;
 use test_rows::{first_word, number};
-use world::{IndexShot, Report, Trace};
+use world::{IndexShot, Moves, Report, Trace, WorldEvent};
 
 /// Bytes in one line: a carriage return as `|`, a line feed as `$`; `-` where there are none.
 pub fn line(alloc: Global, bytes: &[u8]) -> Result<String, Fail> {
@@ -110,18 +111,60 @@ fn push_report(alloc: Global, text: &mut String, made: &Report) -> Result<(), Al
     text.push_str(report(alloc, made)?.as_str())
 }
 
-/// The reports of the events behind the first so many, with bars between them; `-` where there are none.
-pub fn reports_after(alloc: Global, trace: &Trace, events: usize) -> Result<String, AllocError> {
-    let mut text = String::new(alloc);
-    for made in trace.reports.iter() {
-        if events < made.event {
-            push_report(alloc, &mut text, made)?;
-        }
-    }
+/// `-` where there is nothing.
+fn some_text(text: String) -> Result<String, AllocError> {
+    let mut text = text;
     if text.is_empty() {
         text.push_str("-")?;
     }
     Ok(text)
+}
+
+/// The reports of the events behind the first so many, with bars between them; `-` where there are none.
+fn behind(alloc: Global, reports: &[Report], events: usize) -> Result<String, AllocError> {
+    let mut text = String::new(alloc);
+    for made in reports {
+        if events < made.event {
+            push_report(alloc, &mut text, made)?;
+        }
+    }
+    some_text(text)
+}
+
+/// The same of a trace.
+pub fn reports_after(alloc: Global, trace: &Trace, events: usize) -> Result<String, AllocError> {
+    behind(alloc, &trace.reports, events)
+}
+
+/// A move as the words of a row say it.
+fn move_in_words(alloc: Global, event: &WorldEvent) -> Result<String, Fail> {
+    match event {
+        WorldEvent::ClientSend => Ok(String::from_str(alloc, "send")?),
+        WorldEvent::Cut => Ok(String::from_str(alloc, "cut")?),
+        WorldEvent::ToServer(n) => Ok(format!(in alloc; "server {n}")?),
+        WorldEvent::ToClient(n) => Ok(format!(in alloc; "client {n}")?),
+        WorldEvent::Other(Event::Pump(id, lines)) => Ok(format!(in alloc; "pump {id} {lines}")?),
+        WorldEvent::Other(Event::Tick(ms)) => Ok(format!(in alloc; "tick {ms}")?),
+        _ => Err(Fail::new("no move of the schedule")),
+    }
+}
+
+fn push_move(alloc: Global, text: &mut String, event: &WorldEvent) -> Result<(), Fail> {
+    if !text.is_empty() {
+        text.push_str("; ")?;
+    }
+    Ok(text.push_str(move_in_words(alloc, event)?.as_str())?)
+}
+
+/// `MOVES -> REPORTS`, the moves with `; ` between them.
+pub fn moves_and_reports(alloc: Global, moves: &Moves) -> Result<String, Fail> {
+    let mut text = String::new(alloc);
+    for event in moves.events.iter() {
+        push_move(alloc, &mut text, event)?;
+    }
+    let made = some_text(text)?;
+    let reports = behind(alloc, &moves.reports, 0)?;
+    Ok(format!(in alloc; "{made} -> {reports}")?)
 }
 
 /// The text of an object of the last report.

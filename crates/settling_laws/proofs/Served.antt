@@ -1,0 +1,6 @@
+-- The type of summaries can be served.
+use Rattle.std.proofs.Common.{refl}
+use Rattle.settling_laws.specs.SummaryType.{SummariesCanBeServed}
+
+pub summaries_can_be_served : SummariesCanBeServed
+summaries_can_be_served = (refl, refl, (refl, refl, refl, refl, refl))

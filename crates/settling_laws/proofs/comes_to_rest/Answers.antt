@@ -1,0 +1,5 @@
+use Rattle.settling_laws.proofs.Resting as resting
+use Rattle.settling_laws.proofs.comes_to_rest.Goals as goal
+
+pub returns : goal.returns
+returns c = resting.comes_to_rest c.catches_up.ensures c.settles.ensures c.settled_stays.ensures
