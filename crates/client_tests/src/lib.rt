@@ -26,4 +26,6 @@ mod starting;
 #[cfg(test)]
 mod summing;
 #[cfg(test)]
+mod syncing;
+#[cfg(test)]
 mod watches;

@@ -1,41 +1,29 @@
-//! The loop that a caller of an informer writes, over connections that are dialled: `docs/CLIENT.md` has it. The
+//! What a caller of an informer writes who catches up over connections that are dialled: `docs/CLIENT.md` has it. The
 //! connections are those of `mirrors`.
 
 use crate::mirrors::Server;
 use crate::playing::{Namespace, expect_rows};
-use mirroring::Dial;
+use mirroring::{Dial, sync};
 use reflector::{Informer, RelistReason};
 use std::alloc::Global;
 use std::test::Fail;
 use summary::Summary;
-use wire::read_piece;
 
-/// One connection: a request, its reply, and what the notices tell. Answers why the reply was given up, if it was; then
-/// the caller waits before the next one.
-fn follow<D: Dial>(
+/// So many connections, until the informer has this version, and what the notices tell. Answers whether it is there.
+fn catch_up<D: Dial>(
     alloc: Global,
     server: &mut D,
     informer: &mut Informer<Namespace>,
     summary: &mut Summary,
-) -> Result<Option<RelistReason>, Fail> {
-    let Some(request) = informer.next_request()? else {
-        return Ok(None);
-    };
-    let mut connection = server.dial(&request).map_err(|_| "no connection")?;
-    'pieces: for _ in 0..u64::MAX {
-        if !informer.is_awaiting_reply() {
-            break;
-        }
-        match read_piece(alloc, &mut connection) {
-            Ok(piece) if !piece.is_empty() => informer.feed(&piece)?,
-            _ => informer.closed(),
-        }
-        let notices = informer.take_notices();
-        for notice in notices.iter() {
-            summary.note(notice)?;
-        }
+    written: u64,
+    turns: u64,
+) -> Result<bool, Fail> {
+    let is_there = sync(alloc, server, informer, written, turns).map_err(|_| "no connection")?;
+    let notices = informer.take_notices();
+    for notice in notices.iter() {
+        summary.note(notice)?;
     }
-    Ok(informer.relist_reason())
+    Ok(is_there)
 }
 
 /// The revision that is reported after each of these connections, and where the caller waits.
@@ -48,8 +36,14 @@ pub fn followed(
 ) -> Result<String, Fail> {
     let mut text = String::new(alloc);
     for _ in 0..turns {
-        let relist_reason = follow(alloc, server, informer, summary)?;
-        push_turn(alloc, &mut text, informer.revision(), relist_reason)?;
+        // One connection, to its end.
+        catch_up(alloc, server, informer, summary, u64::MAX, 1)?;
+        push_turn(
+            alloc,
+            &mut text,
+            informer.revision(),
+            informer.relist_reason(),
+        )?;
     }
     Ok(text)
 }

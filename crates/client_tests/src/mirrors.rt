@@ -49,7 +49,7 @@ pub struct Server {
     at: usize,
     /// How many reads succeed at most, of all connections.
     pub reads: usize,
-    times: u64,
+    pub times: u64,
     relist_reason: Option<RelistReason>,
 }
 

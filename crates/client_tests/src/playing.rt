@@ -3,6 +3,7 @@
 use crate::looping::followed;
 use crate::mirrors::{mirrored, server_of, troubled};
 use crate::replies::{replies, reply};
+use crate::syncing::synced;
 use indexer::{IndexBy, Indexer, Object};
 use reflector::{Informer, Notice, SettingsFault, Source};
 use std::alloc::{AllocError, Global};
@@ -87,6 +88,7 @@ impl Answers for Play {
     /// | `cuts A;B <- C;D` | the same of these bytes in two pieces, wherever they are cut, behind why the reply was given up |
     /// | `marked S\|T: A;B <- C;D` | what stands after A and B in one piece between the marks of refused memory, and which objects; where it is refused, S or T stands, a first page is asked, and C and D lead to the same |
     /// | `mirror`, `turns`, `follow` | as `mirrors` and `looping` say |
+    /// | `sync` | as `syncing` says |
     /// | another event | what stands after it |
     fn answer(&mut self, alloc: Global, question: &str) -> Result<String, Fail> {
         let (word, rest) = first_word(question);
@@ -105,6 +107,7 @@ impl Answers for Play {
             "fronts" | "cuts" => self.cut(alloc, word, rest),
             "marked" => self.marked(alloc, rest),
             "mirror" | "turns" | "follow" => self.connected(alloc, word, rest),
+            "sync" => self.caught_up(alloc, rest),
             _ => {
                 self.event(alloc, question)?;
                 self.stands(alloc)
@@ -126,6 +129,22 @@ impl Play {
             "turns" => troubled(alloc, server, &mut self.informer, turns),
             _ => followed(alloc, server, &mut self.informer, &mut self.summary, turns),
         }
+    }
+
+    /// What is told of catching up, and what stands then.
+    fn caught_up(&mut self, alloc: Global, words: &str) -> Result<String, Fail> {
+        let (least, words) = first_word(words);
+        let (turns, words) = first_word(words);
+        let server = server_of(alloc, words)?;
+        let mut text = synced(
+            alloc,
+            server,
+            &mut self.informer,
+            number(least)?,
+            number(turns)?,
+        )?;
+        text.push_str(self.stands(alloc)?.as_str())?;
+        Ok(text)
     }
 
     /// `cut`, `restart`, `ask`, or a reply, byte by byte.
@@ -316,14 +335,17 @@ pub fn ask(alloc: Global, informer: &mut Informer<Namespace>) -> Result<String, 
 }
 
 fn target_of(alloc: Global, request: &[u8]) -> Result<String, Fail> {
+    Ok(String::from_str(alloc, target_in(request)?)?)
+}
+
+/// What of a request's target stands behind the type's group and version.
+pub fn target_in(request: &[u8]) -> Result<&str, &'static str> {
     let text = str::from_utf8(request).map_err(|_| "no text")?;
     let text = text
         .strip_prefix("GET /apis/demo.example/v1")
         .ok_or("another path")?;
-    let target = text
-        .strip_suffix(" HTTP/1.1\r\nHost: localhost\r\n\r\n")
-        .ok_or("another head")?;
-    Ok(String::from_str(alloc, target)?)
+    text.strip_suffix(" HTTP/1.1\r\nHost: localhost\r\n\r\n")
+        .ok_or("another head")
 }
 
 /// The lines of the apply, with bars between them.

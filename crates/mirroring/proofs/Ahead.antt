@@ -16,7 +16,7 @@ use Rattle.reflector.specs.declared.relist_reason.RelistReason.{RelistReason}
 abbrev pub ahead : List Notice → Client → Client
 ahead ns c = record { cache = c.cache; sync = c.sync; is_awaiting_reply = c.is_awaiting_reply; notices = ns ++ c.notices }
 
-abbrev if_awaiting_reply : Bool → Client → Client
+abbrev pub if_awaiting_reply : Bool → Client → Client
 if_awaiting_reply b c = cond b (record { cache = c.cache; sync = after_cut c.sync; is_awaiting_reply = false; notices = c.notices }) c
 
 pub all_taken : (c : Client) → ahead c.notices (taken c) ≡ c

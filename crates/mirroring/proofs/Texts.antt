@@ -142,8 +142,9 @@ gives_up r wanted c bytes items a is =
     ([], [], subst (λ (bs : List ℕ). Items bs (items ++ [])) (sym (append-nil bytes)) (subst (Items bytes) (sym (append-nil items)) is), prefix_none a (text_between c c))
 
 pub emits_prefix : {T E : Type 0} (r : Result T E) (wanted : Wanted) (c : Client) (bytes : List ℕ) (items : List ReplyItem) (piece : List ℕ) (response : List ReplyItem) (a b : Option (List ℕ)) (text : List ℕ)
-    → Items (bytes ++ piece) (items ++ response) → text ≡ text_between c (receives_all wanted c response) → WritesPrefix a b text → OnErr r (EmitsPrefix wanted c bytes items a b)
-emits_prefix r wanted c bytes items piece response a b text is same prefix = on_err r _ (piece, response, is, subst (WritesPrefix a b) same prefix)
+    → Items (bytes ++ piece) (items ++ response) → text ≡ text_between c (receives_all wanted c response) → OnErr r (WritesPrefix a b text) → OnErr r (EmitsPrefix wanted c bytes items a b)
+emits_prefix (Ok t) wanted c bytes items piece response a b text is same prefix = tt
+emits_prefix (Err f) wanted c bytes items piece response a b text is same prefix = (piece, response, is, subst (WritesPrefix a b) same prefix)
 
 pub emits_all : {I T U E F : Type 0} (r : Result T E) (s : Result U F) (keys : I → Stored → List (List ℕ)) (wanted : Wanted) (c : Client) (bytes : List ℕ) (items : List ReplyItem) (piece : List ℕ) (i : Informer I)
     (response : List ReplyItem) (a b : Option (List ℕ)) (text : List ℕ) → is_ok s ≡ is_ok r → Items (bytes ++ piece) (items ++ response) → InformerRepresents keys i (taken (receives_all wanted c response)) (bytes ++ piece) (items ++ response)

@@ -1,3 +1,4 @@
 pub mod Printing
 pub mod Turns
 pub mod Pieces
+pub mod Syncs

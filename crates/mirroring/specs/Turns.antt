@@ -84,6 +84,12 @@ abbrev pub MirrorsAll : {I D : Type 0} → (I → Stored → List (List ℕ)) �
 MirrorsAll keys answers learns s turns a c b i old new =
     (d : Client) × (first : Option ℕ) × Turns answers learns s turns a c b d first × Is keys i (taken d) × Appends old new (mirror_text first d.notices)
 
+-- the same between two turns, when nothing is asked and no notice came before the first list
+abbrev pub MirrorsSoFar : {I D : Type 0} → (I → Stored → List (List ℕ)) → (D → List ℕ → List ℕ → D → Type 0) → (D → RelistReason → D → Type 0) → Settings → ℕ → D → Client → D → Informer I → Option (List ℕ) → Option (List ℕ) → Type 0
+MirrorsSoFar keys answers learns s turns a c b i old new =
+    (d : Client) × (first : Option ℕ) × Turns answers learns s turns a c b d first × Is keys i (taken d) × (d.is_awaiting_reply ≡ false)
+    × (d.cache ≡ None → (first ≡ None) × (d.notices ≡ [])) × Appends old new (mirror_text first d.notices)
+
 -- after some turns, which are fewer, a prefix of what was to be written of them and of a part of the next
 abbrev pub MirrorsPrefix : {D : Type 0} → (D → List ℕ → List ℕ → D → Type 0) → (D → RelistReason → D → Type 0) → Settings → ℕ → D → Client → Option (List ℕ) → Option (List ℕ) → Type 0
 MirrorsPrefix {D} answers learns s turns a c old new =

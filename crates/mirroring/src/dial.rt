@@ -1,4 +1,6 @@
-//! Connections to a server, as a client sees them.
+//! Connections to a server, as a client sees them: the transport of an informer.
+
+ghost use Rattle.mirroring.specs.Turns.{LearnsReason};
 
 use reflector::RelistReason;
 use std::io;
@@ -26,4 +28,13 @@ pub trait Dial {
     /// user here, and waits a moment, as a server that refuses would else be asked again at once.
     fn given_up(&mut self, relist_reason: RelistReason)
         ensures { learns self.old relist_reason self.new };
+}
+
+/// Tells the dialer why the last reply was given up, if it was.
+pub(crate) fn report_relist_reason<D: Dial>(dialer: &mut D, relist_reason: Option<RelistReason>)
+    ensures { LearnsReason (λ a t b. D.learns a t b) relist_reason dialer.old dialer.new }
+{
+    if let Some(relist_reason) = relist_reason {
+        dialer.given_up(relist_reason);
+    }
 }

@@ -41,11 +41,17 @@ returns-clause-emitted g c = λ d is idle.
     let all : c.turns.counter ≡ c.args.turns = omega (arith, most, over) in
     (m, first, subst (λ k. Turns (Answers (λ a q r b. g.D.Dial.dials a q r b) (λ r. g.D.Reader.Read.remaining r)) (λ a t b. g.D.Dial.learns a t b) (settings_in c.args.informer.now) k c.args.dialer.now d c.turns.dialer m first) all did, run, emitted)
 
+pub returns-in_err-made-clause-fault : goal.returns-in_err-made-clause-fault
+returns-in_err-made-clause-fault g c = λ d is idle. on_err _ _ (c.in_err-made.ensures.fault d is idle)
+
+pub returns-in_err-made-clause-undialled : goal.returns-in_err-made-clause-undialled
+returns-in_err-made-clause-undialled g c = λ d is idle. error_is c.from_residual.result _ _ c.from_residual.ensures.1 (c.in_err-made.ensures.undialled d is idle)
+
 pub returns-in_err-turn-clause-undialled : goal.returns-in_err-turn-clause-undialled
 returns-in_err-turn-clause-undialled g c = λ d is idle.
     let (m, first, did, run, quiet, before, emitted) = c.turns.invariant.2 d is idle in
     let none : (taken m).notices ≡ [] = λ i. [] in
-    error_is c.from_residual.result _ _ c.from_residual.ensures.1
+    error_is c.from_residual-in_err-turn.result _ _ c.from_residual-in_err-turn.ensures.1
     (λ undialled.
     let (then, same) = c.in_err-turn.ensures.undialled (taken m) run (quiet, none) undialled in (
       c.turns.counter,

@@ -1,0 +1,117 @@
+//! Informers that catch up over connections that rows dial, and what they ask for it. The connections are those of `mirrors`.
+//!
+//! `sync LEAST TURNS REPLIES|REPLIES`: how it ends, how often the dialer was told that a reply was given up, and what was
+//! asked; then what stands.
+
+use crate::mirrors::{Cut, Server};
+use crate::playing::{Namespace, expect_rows, target_in};
+use mirroring::{Dial, MirrorFault, sync};
+use reflector::{Informer, RelistReason};
+use std::alloc::Global;
+use std::io;
+use std::io::ErrorKind;
+use std::test::Fail;
+
+/// A server, and what each request asked.
+#[derive(Drop)]
+struct Asked {
+    alloc: Global,
+    server: Server,
+    targets: String,
+}
+
+impl Dial for Asked {
+    type Reader = Cut;
+
+    fn dial(&mut self, request: &[u8]) -> io::Result<Cut> {
+        let target = target_in(request).map_err(|_| io::Error::from(ErrorKind::InvalidInput))?;
+        self.targets.push_str(" ")?;
+        self.targets.push_str(target)?;
+        self.server.dial(request)
+    }
+
+    fn given_up(&mut self, relist_reason: RelistReason) {
+        self.server.given_up(relist_reason);
+    }
+}
+
+fn ending(done: &Result<bool, MirrorFault>) -> &'static str {
+    match done {
+        Ok(true) => "there",
+        Ok(false) => "not there",
+        Err(MirrorFault::Dial(_)) => "no connection",
+        Err(_) => "another fault",
+    }
+}
+
+/// How catching up ends, how often the dialer was told that a reply was given up, and what was asked.
+pub fn synced(
+    alloc: Global,
+    server: Server,
+    informer: &mut Informer<Namespace>,
+    least: u64,
+    turns: u64,
+) -> Result<String, Fail> {
+    let mut asked = Asked {
+        alloc,
+        server,
+        targets: String::new(alloc),
+    };
+    let done = sync(alloc, &mut asked, informer, least, turns);
+    let end = ending(&done);
+    Ok(format!(in alloc;
+        "{end}, {} given up:{}; ",
+        asked.server.times, asked.targets
+    )?)
+}
+
+/// A list in two pages is whole with the second, and no more is asked; where the turns end between them, the next ones go on.
+#[test]
+fn lists_are_whole_with_the_last_page(rt: HostRuntime) -> Result<(), Fail> {
+    let rows = "lists_are_whole_with_the_last_page\n\
+        sync 0 9 page 6 6.default.w2 w1@2 w2@3|page 6 - w3@4|watch => there, 0 given up: /widgets?limit=2 /widgets?limit=2&continue=6.default.w2; (Some(6), 3, 3) +w1 +w2 +w3\n\
+        restart => (None, 0, 0)\n\
+        sync 0 2 page 6 6.default.w2 w1@2 w2@3|page 6 - w3@4|watch => there, 0 given up: /widgets?limit=2 /widgets?limit=2&continue=6.default.w2; (Some(6), 3, 3) +w1 +w2 +w3\n\
+        restart => (None, 0, 0)\n\
+        sync 0 1 page 6 6.default.w2 w1@2 w2@3|page 6 - w3@4|watch => not there, 0 given up: /widgets?limit=2; (None, 0, 0)\n\
+        sync 0 1 page 6 - w3@4 => there, 0 given up: /widgets?limit=2&continue=6.default.w2; (Some(6), 3, 3) +w1 +w2 +w3\n\
+        sync 0 1 page 7 - w3@7 => there, 0 given up:; (Some(6), 3, 3)\n\
+        sync 7 0 page 7 - w3@7 => not there, 0 given up:; (Some(6), 3, 3)\n";
+    expect_rows(rt.alloc(), "", rows)
+}
+
+/// A list that is cut begins again, and so does one whose connection was another's.
+#[test]
+fn cut_lists_begin_again(rt: HostRuntime) -> Result<(), Fail> {
+    let rows = "cut_lists_begin_again\n\
+        sync 0 9 page 6 t w1@2 w2@3|bytes HTTP/1.1 200 OK¶Content-Length: 9¶¶{|page 7 - w1@2 => there, 0 given up: /widgets?limit=2 /widgets?limit=2&continue=t /widgets?limit=2; (Some(7), 1, 1) +w1\n\
+        restart => (None, 0, 0)\n\
+        ask => /widgets?limit=2\n\
+        page 6 t w1@2 w2@3 => (None, 0, 0)\n\
+        ask => /widgets?limit=2&continue=t\n\
+        sync 0 9 page 6 - w3@4 => there, 0 given up: /widgets?limit=2; (Some(6), 1, 1) +w3\n";
+    expect_rows(rt.alloc(), "", rows)
+}
+
+/// A watch is followed to the revision and no further, over a cut, and begins again from where it came to.
+#[test]
+fn watches_lead_to_the_revision(rt: HostRuntime) -> Result<(), Fail> {
+    let rows = "watches_lead_to_the_revision\n\
+        sync 9 9 page 7 - w1@2|watch;line MODIFIED w1@8;half ADDED w2@9|watch;line ADDED w2@9;line ADDED w3@10|status 410 Gone => there, 0 given up: /widgets?limit=2 /widgets?watch=true&resourceVersion=7&allowWatchBookmarks=true /widgets?watch=true&resourceVersion=8&allowWatchBookmarks=true; (Some(9), 2, 2) +w1 *w1 +w2\n\
+        sync 9 9 status 410 Gone => there, 0 given up:; (Some(9), 2, 2)\n\
+        sync 12 9 watch;line ADDED w3@10;line BOOKMARK 12;line DELETED w1@13 => there, 0 given up: /widgets?watch=true&resourceVersion=9&allowWatchBookmarks=true; (Some(12), 3, 3) +w3\n\
+        sync 13 9 watch;line DELETED w1@14 => there, 0 given up: /widgets?watch=true&resourceVersion=12&allowWatchBookmarks=true; (Some(14), 2, 2) -w1\n\
+        sync 16 9 watch;line MODIFIED w2@15 => no connection, 0 given up: /widgets?watch=true&resourceVersion=14&allowWatchBookmarks=true /widgets?watch=true&resourceVersion=15&allowWatchBookmarks=true; (Some(15), 2, 2) *w2\n";
+    expect_rows(rt.alloc(), "", rows)
+}
+
+/// The dialer is told of each refusal; the objects are kept until a list is whole, and where the turns end it isn't there.
+#[test]
+fn refusals_are_told(rt: HostRuntime) -> Result<(), Fail> {
+    let rows = "refusals_are_told\n\
+        sync 0 2 status 503 Service Unavailable|status 503 Service Unavailable|page 9 - w1@2 => not there, 2 given up: /widgets?limit=2 /widgets?limit=2; (None, 0, 0)\n\
+        sync 0 9 page 9 - w1@2 => there, 0 given up: /widgets?limit=2; (Some(9), 1, 1) +w1\n\
+        sync 12 2 status 410 Gone|status 503 Service Unavailable|page 12 - w2@12 => not there, 2 given up: /widgets?watch=true&resourceVersion=9&allowWatchBookmarks=true /widgets?limit=2; (Some(9), 1, 1)\n\
+        sync 12 1 page 12 - w2@12 => there, 0 given up: /widgets?limit=2; (Some(12), 1, 1) -w1 +w2\n";
+    expect_rows(rt.alloc(), "", rows)
+}
