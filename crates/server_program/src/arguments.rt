@@ -19,7 +19,7 @@ use std::convert::AsStr;
 const ABOUT: &str = "Serves the types of a file on loopback, with objects in memory";
 
 const NOTES: &str = "Example:
-  ssa-server --types examples/widgets.json --port 8001
+  ssa-server --types examples/widgets.json --port 8001 --concurrent
 
 Exit status:
   0  the connections that --serve asks for were served
@@ -83,7 +83,7 @@ const RECORD: TextOption<'static> = TextOption {
 const CONCURRENT: &str = "concurrent";
 
 const CONCURRENT_HELP: &str =
-    "Serve many connections at once, not one after another, and follow the types file";
+    "Give it always: serve many connections at once, not one after another, and follow the types file";
 
 const OBJECTS: TextOption<'static> = TextOption {
     name: "objects",
