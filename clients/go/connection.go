@@ -30,6 +30,8 @@ type connection struct {
 	isRead bool
 	// isTold tells that its reply has begun.
 	isTold bool
+	// isWatch tells that its reply goes on after the request.
+	isWatch bool
 	// over is closed when it is over.
 	over chan struct{}
 }

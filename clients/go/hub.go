@@ -44,6 +44,10 @@ type server struct {
 	now       time.Duration
 	// told is how often watches have written.
 	told uint64
+	// heldBack is how many pumps brought nothing since lines were held back.
+	heldBack uint64
+	// hasEnded tells that a watch has ended or was cut since all had settled.
+	hasEnded bool
 	// stirs is how often something has happened or was read.
 	stirs uint64
 	run   *run

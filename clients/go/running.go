@@ -27,7 +27,8 @@ func (r *run) RoundTrip(request *http.Request) (*http.Response, error) {
 // sends by the transport, and the pumps meanwhile. Where the schedule begins the controller
 // anew, its requests fail, its watches are cut and the context is cancelled; once the work
 // has returned it is done from its beginning, with another transport. An error that it
-// returns else is a failure of the test.
+// returns else is a failure of the test. Where Run is called several times, each call has
+// another transport, and the watches of one are cut at its end.
 func (h *Hub) Run(work func(ctx context.Context, transport http.RoundTripper) error) {
 	h.t.Helper()
 	for {
@@ -107,10 +108,15 @@ func (s *server) actionNames() []string {
 
 // Settle does this step again until it changes no object, no watch brings a line and none
 // is held back. After a hundred times that is an error.
+//
+// Where a watch has ended or was cut since the last time that all had settled, that has to be
+// so four times one after another: a controller may see it in one step, list again in the
+// next and reconcile in another.
 func (h *Hub) Settle(ctx context.Context, step func() error) error {
 	const most = 100
+	quiet := 0
 	for n := 0; n < most; n++ {
-		before, wasHeld, err := h.standing()
+		before, _, err := h.standing()
 		if err != nil {
 			return err
 		}
@@ -124,19 +130,36 @@ func (h *Hub) Settle(ctx context.Context, step func() error) error {
 		if ctx.Err() != nil {
 			return ctx.Err()
 		}
-		if before == after && !wasHeld && !isHeld {
+		quiet++
+		if before != after || isHeld {
+			quiet = 0
+		}
+		if h.hasSettled(quiet) {
 			return nil
 		}
 	}
 	return fmt.Errorf("nothing has settled after %d steps", most)
 }
 
-// standing is where the hub stands: its version, and how often watches have written.
-func (s *server) standing() ([2]uint64, bool, error) {
+// standing is where the hub stands (its version, how often watches have written, and how many
+// pumps brought nothing since lines were held back), and whether lines are held back.
+func (s *server) standing() ([3]uint64, bool, error) {
 	s.lock.Lock()
 	defer s.lock.Unlock()
 	revision, err := s.revision()
-	return [2]uint64{revision, s.told}, s.held > 0, err
+	return [3]uint64{revision, s.told, s.heldBack}, s.held > 0, err
+}
+
+// hasSettled tells whether all has settled after so many quiet steps one after another.
+func (s *server) hasSettled(quiet int) bool {
+	const afterEnd = 4 // the step of a watch's end, and one each to see it, to list and to reconcile
+	s.lock.Lock()
+	defer s.lock.Unlock()
+	if quiet == 0 || s.hasEnded && quiet < afterEnd {
+		return false
+	}
+	s.hasEnded = false
+	return true
 }
 
 // Until waits until this holds, for ten seconds of the clock at most, and looks each

@@ -22,6 +22,7 @@ func (h *Hub) Pump() int {
 func (s *server) pump() (int, error) {
 	if s.held > 0 {
 		s.held--
+		s.heldBack++
 		return 0, nil
 	}
 	const most = 500
@@ -87,6 +88,7 @@ func (h *Hub) Cut() {
 	h.lock.Lock()
 	defer h.lock.Unlock()
 	for _, c := range append([]*connection(nil), h.open...) {
+		h.hasEnded = true
 		h.must(h.leave(c, errCut))
 	}
 }
@@ -168,6 +170,7 @@ func (s *server) sendLocked(data []byte, by *run) (*connection, error) {
 	c := &connection{server: s, number: s.highest, run: by, over: make(chan struct{})}
 	s.open = append(s.open, c)
 	_, err := s.play(fmt.Sprintf(`{"open":%d}`, c.number), inLine(c.number, data))
+	c.isWatch = !c.isOver()
 	return c, err
 }
 
@@ -241,6 +244,7 @@ func (s *server) deliver(answer Answer) {
 	for _, number := range answer.Ended {
 		if c := s.find(number); c != nil {
 			c.ended = true
+			s.hasEnded = s.hasEnded || c.isWatch
 			s.drop(c)
 		}
 	}

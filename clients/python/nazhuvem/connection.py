@@ -73,6 +73,8 @@ class Connection:
         self.is_cut = False
         #: Whether its reply has begun.
         self.is_told = False
+        #: Whether its reply goes on after the request.
+        self.is_watch = False
 
     @property
     def seconds(self) -> Optional[float]:

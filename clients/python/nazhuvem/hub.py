@@ -27,6 +27,9 @@ from nazhuvem.watch import Watch
 T = TypeVar("T")
 
 _MOST_STEPS = 100
+# So many steps have to be quiet after the end of a watch: that in which it comes, and
+# one each to see it, to list again and to reconcile.
+_STEPS_AFTER_END = 4
 
 
 class EventRefused(Exception):
@@ -72,8 +75,10 @@ class Hub:
         self._highest = 0
         self._open: dict[int, Connection] = {}
         self._held = 0
+        self._held_back = 0
         self._is_running = False
         self._told = 0
+        self._has_ended = False
         #: What the schedule may let happen, by name.
         self.actions: dict[str, Callable[[], object]] = {}
         #: Milliseconds of the hub's time since its start.
@@ -141,6 +146,7 @@ class Hub:
         with self._event(Event("pump")):
             if self._held > 0:
                 self._held -= 1
+                self._held_back += 1
                 return
             for one in [connection] if connection else list(self._open.values()):
                 if not one.is_over:
@@ -173,12 +179,8 @@ class Hub:
     def cut(self, connection: Optional[Connection] = None) -> None:
         """Cuts the connection of this watch, or of all."""
         for one in [connection] if connection else list(self._open.values()):
-            if not one.is_over:
-                self.event({"gone": one.number})
-                one.is_cut = True
-                self._open.pop(one.number, None)
-        with self._moved:
-            self._moved.notify_all()
+            self._has_ended |= not one.is_over
+            self.leave(one)
 
     def serve_types(self, types: Mapping[str, Any]) -> None:
         """Another types file, `{"types": [..]}`, takes the place of the one
@@ -212,7 +214,9 @@ class Hub:
     def run(self, work: Callable[[], T]) -> T:
         """Does this work as the controller: what `explore` disturbs are the
         hub's events while it is done. Where the schedule begins the controller
-        anew, its watches are cut and the work is done from its beginning."""
+        anew, its watches are cut and the work is done from its beginning: what was
+        made outside of the work is kept. It may be called several times, for phases
+        of which each has settled before the next."""
         before, self._is_running = self._is_running, True
         try:
             while True:
@@ -230,14 +234,27 @@ class Hub:
 
     def settle(self, step: Callable[[], object]) -> None:
         """Does this step again until it changes no object, no watch brings a
-        line and none is held back. After a hundred times that is an error."""
+        line and none is held back. After a hundred times that is an error.
+
+        Where a watch has ended or was cut since the last time that all had
+        settled, that has to be so four times one after another: a controller may
+        see it in one step, list again in the next and reconcile in another.
+        """
+        quiet = 0
         for _ in range(_MOST_STEPS):
-            before = (self.revision(), self._told, False)
-            is_held = self.is_held
+            before = self._standing()
             step()
-            if (self.revision(), self._told, is_held) == before:
+            is_quiet = self._standing() == before and not self.is_held
+            quiet = quiet + 1 if is_quiet else 0
+            if quiet >= (_STEPS_AFTER_END if self._has_ended else 1):
+                self._has_ended = False
                 return
         raise AssertionError(f"nothing has settled after {_MOST_STEPS} steps")
+
+    def _standing(self) -> tuple[int, int, int]:
+        """The version, how often watches have written, and how many pumps
+        brought nothing since lines were held back."""
+        return self.revision(), self._told, self._held_back
 
     @property
     def is_held(self) -> bool:
@@ -287,6 +304,15 @@ class Hub:
                 event.status = status_of(connection.waiting)
             return connection
 
+    def leave(self, connection: Connection) -> None:
+        """The client of this connection goes, where it isn't over."""
+        if not connection.is_over:
+            self.event({"gone": connection.number})
+            connection.is_cut = True
+            self._open.pop(connection.number, None)
+        with self._moved:
+            self._moved.notify_all()
+
     def wait(self, connection: Connection, seconds: Optional[float]) -> None:
         """Waits until bytes are there on the connection, or it is over.
 
@@ -328,6 +354,7 @@ class Hub:
             self._play(
                 f'{{"open":{number}}}', f'{{"in":[{number},{json.dumps(text)}]}}'
             )
+            connection.is_watch = not connection.ended
             return connection
 
     def _play(self, *lines: str) -> list[Answer]:
@@ -344,6 +371,7 @@ class Hub:
             for number in answer.ended:
                 if ended := self._open.pop(number, None):
                     ended.ended = True
+                    self._has_ended |= ended.is_watch
         self._moved.notify_all()
         return answers
 

@@ -29,7 +29,7 @@ class _Raw(io.RawIOBase):
 
     def close(self) -> None:
         if not self.closed:
-            self._stream.hub.cut(self._connection)
+            self._stream.hub.leave(self._connection)
         super().close()
 
 

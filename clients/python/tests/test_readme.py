@@ -2,6 +2,7 @@
 
 from __future__ import annotations
 
+import importlib.util
 import os
 import re
 import tempfile
@@ -10,9 +11,31 @@ from pathlib import Path
 from typing import Any
 
 import nazhuvem
-from tests.common import TYPES
+from tests.common import TYPES, WIDGETS
 
 README = Path(__file__).resolve().parents[1] / "README.md"
+
+
+def controller() -> Any:
+    """The controller of the example that has no fault."""
+    path = TYPES.parent / "reconcile.py"
+    found = importlib.util.spec_from_file_location("reconcile", path)
+    assert found and found.loader
+    module = importlib.util.module_from_spec(found)
+    found.loader.exec_module(module)
+    return getattr(module, "Mended")
+
+
+def children_of(hub: nazhuvem.Hub, name: str) -> int:
+    """How many children a widget has."""
+    query = {"labelSelector": f"parent={name}"}
+    return len(hub.request("GET", WIDGETS, query=query).value["items"])
+
+
+def replicas_of(hub: nazhuvem.Hub, name: str) -> int:
+    """How many it wants, or none where it is gone."""
+    read = hub.request("GET", f"{WIDGETS}/{name}")
+    return int(read.value["spec"]["replicas"]) if read.status == 200 else 0
 
 
 class ReadmeTest(unittest.TestCase):
@@ -27,23 +50,19 @@ class ReadmeTest(unittest.TestCase):
 
     def test_code(self) -> None:
         text = README.read_text(encoding="utf-8")
-        hub, explore = re.findall(r"```python\n(.*?)```", text, re.S)
-        names: dict[str, Any] = {"explore": nazhuvem.explore}
+        hub, explore, phases = re.findall(r"```python\n(.*?)```", text, re.S)
+        names: dict[str, Any] = {
+            "explore": nazhuvem.explore,
+            "Controller": controller(),
+            "the_children_of": children_of,
+            "the_replicas_of": replicas_of,
+        }
         exec(hub, names)
         self.assertIn('{"pump":[2,1]}', Path("what_happened.jsonl").read_text())
-
-        class Controller:
-            """Counts the widget as its two children."""
-
-            def __init__(self, _: nazhuvem.Hub) -> None:
-                pass
-
-            def step(self) -> None:
-                """Does nothing."""
-
-        names["Controller"] = Controller
-        names["the_children_of"] = lambda hub, name: 2
         exec(explore, names)
+        exec(phases, names)
+        kinds = (nazhuvem.cuts, nazhuvem.holds, nazhuvem.restarts)
+        self.assertGreater(nazhuvem.explore(names["scenario"], TYPES, kinds), 20)
 
     def test_names(self) -> None:
         text = README.read_text(encoding="utf-8")
