@@ -14,13 +14,13 @@ import concurrent.futures
 import importlib.util
 import os
 import shutil
-import subprocess
 import sys
 import tempfile
 import time
 from collections.abc import Iterator
 
-TOP = os.path.dirname(os.path.dirname(os.path.realpath(__file__)))
+from running import TOP, begun, has_client_go
+
 PYTHON = f"{TOP}/clients/python"
 GO = f"{TOP}/clients/go"
 # What a step may take; the first build of client-go takes some minutes.
@@ -40,11 +40,10 @@ class Step:
     def run(self) -> bool:
         """Runs it, and tells whether it passed; what it printed is shown where it didn't."""
         began = time.monotonic()
-        command = ["timeout", str(SECONDS), *self.command]
-        done = subprocess.run(command, cwd=self.folder, env={**os.environ, **self.variables}, stdin=subprocess.DEVNULL,
-                              stdout=subprocess.PIPE, stderr=subprocess.STDOUT, text=True, errors="replace", check=False)
-        passed = done.returncode == 0
-        said = "" if passed else done.stdout
+        with begun(["timeout", str(SECONDS), *self.command], self.folder, self.variables) as started:
+            output = started.communicate()[0]
+        passed = started.returncode == 0
+        said = "" if passed else output
         print(f"{said}{'passed' if passed else 'FAILED'}: {self.name}, {time.monotonic() - began:.1f} s\n", end="", flush=True)
         return passed
 
@@ -54,7 +53,7 @@ def python_steps() -> Iterator[Step]:
     yield Step("clients/python", PYTHON, sys.executable, "-W", "error::ResourceWarning", "-m", "unittest", "-q")
     yield Step("clients/python, the package kubernetes", PYTHON, sys.executable, "-m", "unittest", "-q", "tests.test_kubernetes",
                skipped=missing)
-    for name in ("reconcile.py", "lease.py"):
+    for name in ("first_test.py", "reconcile.py", "lease.py"):
         yield Step(f"examples/{name}", f"{TOP}/examples", sys.executable, name, PYTHONPATH=PYTHON)
 
 
@@ -66,7 +65,7 @@ def go_steps(room: str) -> Iterator[Step]:
     yield Step("clients/go, vet", GO, "go", "vet", ".", skipped=missing)
     yield Step("clients/go", GO, "go", "test", "-count=1", ".", skipped=missing)
     client_go = os.environ.get("CLIENT_GO", "")
-    if not missing and not os.path.isdir(f"{client_go}/src/k8s.io/client-go"):
+    if not missing and not has_client_go(client_go):
         missing = "CLIENT_GO names no GOPATH with client-go"
     os.makedirs(f"{room}/src")
     os.symlink(GO, f"{room}/src/nazhuvem")

@@ -25,7 +25,7 @@ import sys
 import tempfile
 import threading
 
-from running import BUILT, TOP, Server
+from running import BUILT, TOP, Server, begun, has_client_go
 
 PORT = "8001"
 MARK = "---- the end of a command ----"
@@ -61,8 +61,7 @@ def has(package: str) -> bool:
             words = ["/usr/bin/python3", "-c", "import kubernetes"]
             return subprocess.run(words, stderr=subprocess.DEVNULL).returncode == 0
         case "client-go":
-            folders = os.environ.get("GOPATH", "").split(":")
-            return any(os.path.isdir(f"{it}/src/k8s.io/client-go") for it in folders)
+            return has_client_go(os.environ.get("GOPATH", ""))
         case "golang-go":
             return shutil.which("go") is not None
     return shutil.which(package) is not None
@@ -77,17 +76,8 @@ class Session:
         self.server: Server | None = None
         cache = os.environ.get("XDG_CACHE_HOME", os.path.expanduser("~/.cache"))
         own = {"TMPDIR": folder, "HOME": folder, "SSA_SERVER": program}
-        self.bash = subprocess.Popen(
-            ["bash"],
-            cwd=TOP,
-            env={"XDG_CACHE_HOME": cache, **os.environ, **own},
-            stdin=subprocess.PIPE,
-            stdout=subprocess.PIPE,
-            stderr=subprocess.STDOUT,
-            text=True,
-            errors="replace",
-            start_new_session=True,
-        )
+        variables = {"XDG_CACHE_HOME": cache, **own}
+        self.bash = begun(["bash"], TOP, variables, subprocess.PIPE, is_apart=True)
 
     def __enter__(self) -> "Session":
         return self

@@ -170,6 +170,8 @@ def whole(results: Results) -> None:
     watch = gate_cost.Watch(os.getpid())
     watch.start()
     results.run("the generated pages", ["tools/pages.py", "--check"])
+    results.run("the links of the pages", ["tools/links.py"])
+    results.run("the picture of the layers", ["tools/layers.py", "--check"])
     results.run("the lines of crates.txt", ["tools/edges.py"])
 
     def tell(tried: edits.Tried, _: bool) -> None:

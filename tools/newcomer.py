@@ -147,8 +147,8 @@ def request_of(words):
         if word == "-X":
             method = next(words)
         elif word == "-H":
-            name, _, value = next(words).partition(": ")
-            headers[name] = value
+            name, _, value = next(words).partition(":")
+            headers[name] = value.strip()
         elif word == "-d":
             body = next(words).encode()
         elif word in ("-o", "--max-time"):

@@ -11,6 +11,34 @@ TOP = os.path.dirname(os.path.dirname(os.path.realpath(__file__)))
 BUILT = f"{TOP}/crates/ssa_server/out/ssa_server"
 
 
+def begun(
+    command: list[str],
+    where: str,
+    variables: dict[str, str],
+    takes: int = subprocess.DEVNULL,
+    is_apart: bool = False,
+) -> subprocess.Popen[str]:
+    """A command in a folder, with variables beside those that are set, and what it takes
+    as its standard input; all that it says comes on its standard output. Where it is apart
+    it and what it starts are a group of their own."""
+    return subprocess.Popen(
+        command,
+        cwd=where,
+        env={**os.environ, **variables},
+        stdin=takes,
+        stdout=subprocess.PIPE,
+        stderr=subprocess.STDOUT,
+        text=True,
+        errors="replace",
+        start_new_session=is_apart,
+    )
+
+
+def has_client_go(gopath: str) -> bool:
+    """Whether one of these folders has client-go."""
+    return any(os.path.isdir(f"{it}/src/k8s.io/client-go") for it in gopath.split(":"))
+
+
 class Server:
     """A server of the types of a file, on a free port. It ends with the block."""
 

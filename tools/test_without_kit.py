@@ -29,6 +29,8 @@ def of_the_files(results: Results) -> None:
     results.run("planted differences of a release", ["tools/test_release.py"])
     results.run("the release", ["tools/release.py", "--check"])
     results.run("the generated pages", ["tools/pages.py", "--check"])
+    results.run("the links of the pages", ["tools/links.py"])
+    results.run("the picture of the layers", ["tools/layers.py", "--check"])
     with tempfile.TemporaryDirectory() as room:
         paths = (
             it for it in repository.files() if it.startswith(("bench/", "crates/"))
