@@ -1,5 +1,5 @@
 -- Rows of a query that are read one at a time: what stays of the connection, and what the rows so far say of the answer.
-use Rattle.std.proofs.Common.{◌≡◌, ◌⊎◌, ◌&&◌, inl, inr, ℕ, zero, suc, ◌+◌, ◌-◌, ◌^◌, ◌<◌, ◌≤◌, Bool, true, false, cond, List, [], ◌∷◌, ◌++◌, length, map, take, Option, Some, None, Ok, Err, Result, is_some, IsTrue, IfOk, true≢false, refl, sym, ap, ap₂, subst, ◌∙◌, append-nil, length-append, arith}
+use Rattle.std.proofs.Common.{◌≡◌, ◌⊎◌, ◌&&◌, inl, inr, ℕ, ◌+◌, ◌-◌, ◌^◌, ◌<◌, ◌≤◌, Bool, true, false, cond, List, [], ◌∷◌, ◌++◌, length, map, take, Option, Some, None, Ok, Err, Result, is_some, IsTrue, IfOk, true≢false, refl, sym, ap, ap₂, subst, ◌∙◌, append-nil, length-append, arith}
 use Rattle.std.proofs.lemmas.List.{length-map, map-append}
 use Rattle.std.proofs.lemmas.List.Elements.{filter-append}
 use Rattle.std.specs.FinMap as fin
@@ -32,7 +32,7 @@ use Rattle.history.specs.Read.{entry_of}
 use Rattle.revtable.specs.Rows.{the_schema, command_in, shown, HasRows, IsAnswer, Keeps}
 use Rattle.revtable.specs.Spans.{Stored}
 use Rattle.revtable.proofs.Halves.{begins_all, begins_none, begins_one, take_both}
-use Rattle.revtable.proofs.Numbers.{objects_few, take_whole}
+use Rattle.revtable.proofs.Numbers.{objects_few, take_nothing, take_whole}
 use Rattle.revtable.proofs.Outcomes.{asked_keeps, kept_by, open_if_shown, same_command, same_if_unchanged, same_keeps, when_ok}
 use Rattle.revtable.proofs.Texts.{from_is, from_text, in_is, in_text}
 
@@ -48,10 +48,6 @@ take_prefix : {X : Type 0} (n : ℕ) (xs ys : List X) → length xs ≤ n → ta
 take_prefix n xs ys le =
     let whole : take n xs ≡ xs = take_whole n xs le in
     take_both n xs ys ∙ ap (λ l. l ++ take (n - length l) ys) whole
-
-take_none : {X : Type 0} (n : ℕ) → take {A = X} n [] ≡ []
-take_none zero = refl
-take_none (suc n) = refl
 
 -- nothing is left, or as many rows were read as there may be, or enough were found
 abbrev pub IsDone : ℕ → List (Key × Object) → List Row → List Row → Type 0
@@ -69,10 +65,10 @@ found_first kept max given tail few fits done =
     none : IsDone max (found_in kept given) given tail → take (max - length (found_in kept given)) (found_in kept (take (last_revision - length given) tail)) ≡ []
     none (inl nothing) =
         ap (λ l. take (max - length (found_in kept given)) (found_in kept (take (last_revision - length given) l))) nothing
-        ∙ ap (λ l. take (max - length (found_in kept given)) (found_in kept l)) (take_none (last_revision - length given)) ∙ take_none (max - length (found_in kept given))
+        ∙ ap (λ l. take (max - length (found_in kept given)) (found_in kept l)) (take_nothing (last_revision - length given)) ∙ take_nothing (max - length (found_in kept given))
     none (inr (inl all)) =
         let left : last_revision - length given ≡ 0 = omega (arith, all) in
-        ap (λ n. take (max - length (found_in kept given)) (found_in kept (take n tail))) left ∙ take_none (max - length (found_in kept given))
+        ap (λ n. take (max - length (found_in kept given)) (found_in kept (take n tail))) left ∙ take_nothing (max - length (found_in kept given))
     none (inr (inr enough)) =
         let left : max - length (found_in kept given) ≡ 0 = omega (arith, enough) in
         ap (λ n. take n (found_in kept (take (last_revision - length given) tail))) left
@@ -217,7 +213,7 @@ last_fits = omega arith
 -- ---- where a page begins
 
 pub none_listed : (kept : List ℕ → Bool) (max kind : ℕ) (ns : Option (List ℕ)) (after : Option (List ℕ × List ℕ)) (s : Objects) → begins ns after ≡ None → [] ≡ first_kept kept max (listed kind ns after s)
-none_listed kept max kind ns after s e = sym (ap (first_kept kept max) (begins_none kind ns after s e) ∙ take_none max)
+none_listed kept max kind ns after s e = sym (ap (first_kept kept max) (begins_none kind ns after s e) ∙ take_nothing max)
 
 pub one_listed : (kind : ℕ) (ns : Option (List ℕ)) (after : Option (List ℕ × List ℕ)) (s : Objects) (first : List ℕ) (name : Option (List ℕ)) → is_some ns ≡ true → begins ns after ≡ Some (first, name)
     → in_one kind first name s ≡ listed kind ns after s
@@ -228,6 +224,12 @@ pub all_listed : (kind : ℕ) (ns : Option (List ℕ)) (after : Option (List ℕ
     → in_one kind first name s ++ in_later kind first s ≡ listed kind ns after s
 all_listed kind None after s first name named e = sym (begins_all kind after s first name e)
 all_listed kind (Some ns) after s first name named e = absurd (true≢false named)
+
+-- ---- where all are kept
+
+pub every_kept : (es : List (Key × Object)) → kept_among (λ text. true) es ≡ es
+every_kept [] = refl
+every_kept (e ∷ es) = ap (λ l. e ∷ l) (every_kept es)
 
 -- ---- how many there can be
 

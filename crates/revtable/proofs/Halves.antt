@@ -1,7 +1,6 @@
 -- A page is what is left of one namespace and then what the namespaces after it have.
-use Rattle.std.proofs.Common.{◌≡◌, ℕ, zero, suc, List, [], ◌∷◌, ◌++◌, map, Bool, true, false, cond, T, ◌&&◌, ◌||◌, Option, Some, None, is_some, unwrap_or, refl, sym, ap, ap₂, subst, option_map, ◌∙◌, take, length, ◌-◌, Less, Equal, Greater, Ordering, filter, ◌==◌, is_eq, is_lt, arith}
+use Rattle.std.proofs.Common.{◌≡◌, ℕ, zero, suc, List, [], ◌∷◌, ◌++◌, Bool, true, false, cond, T, ◌&&◌, ◌||◌, Option, Some, None, is_some, unwrap_or, refl, sym, ap, subst, option_map, ◌∙◌, take, length, ◌-◌, Less, Equal, Greater, Ordering, filter, ◌==◌, is_eq, is_lt, arith}
 use Rattle.std.proofs.Common.{eqb-true}
-use Rattle.std.proofs.lemmas.List.{map-append, length-map}
 use Rattle.std.specs.Ordering.{is_gt, ordering_then}
 use Rattle.std.specs.List.{AllByRecursion}
 use Rattle.std.specs.FinMap as fin
@@ -9,7 +8,7 @@ use Rattle.sqlite.specs.Tree.{IsAscending}
 use Rattle.sqlite_keyed.proofs.ListLemmas.{filter_same}
 use Rattle.revtable.specs.Asked.{begins, begins_by, in_one, in_from, in_later, is_in_one, is_in_later, is_past_name}
 use Rattle.history.specs.History.{Key, Objects, text_cmp, key_cmp}
-use Rattle.history.specs.Page.{is_within, is_past, listed, page}
+use Rattle.history.specs.Page.{is_within, is_past, listed}
 use Rattle.revtable.proofs.Entries.{Entry, entries_ascend}
 use Rattle.history.proofs.Keys.{is_equal, text_cmp_antisymmetric}
 use Rattle.revtable.proofs.Pages.{and_left, same_kind}
@@ -161,30 +160,7 @@ begins_none kind (Some ns) after s e = listed_one kind ns after s ∙ ap (λ b. 
 pub from_next : (kind : ℕ) (ns : List ℕ) (s : Objects) → in_from kind (ns ++ 0 ∷ []) s ≡ in_later kind ns s
 from_next kind ns s = filter_same _ _ (λ (e : Entry). ap (λ b. (e.0.kind == kind) && b) (next_text e.0.namespace ns)) (fin.entries s)
 
--- ---- the rows of a page
-
-pub one_then_more : {X Y : Type 0} (f : X → Y) (max left : ℕ) (xs ys : List X) (rows more all : List Y) → rows ≡ map f (take max xs) → left ≡ max - length rows → more ≡ map f (take left ys) → all ≡ rows ++ more
-    → all ≡ map f (take max (xs ++ ys))
-one_then_more f max left xs ys rows more all is_rows is_left is_more is_all =
-    is_all ∙ ap₂ (λ a b. a ++ b) is_rows (is_more ∙ ap (λ n. map f (take n ys)) (is_left ∙ ap (λ n. max - n) (ap length is_rows ∙ length-map (take max xs) f)))
-    ∙ sym (ap (map f) (take_both max xs ys) ∙ map-append f (take max xs) (take (max - length (take max xs)) ys))
-
-take_nothing : {X : Type 0} (n : ℕ) → take {A = X} n [] ≡ []
-take_nothing zero = refl
-take_nothing (suc n) = refl
-
-pub page_none : (kind : ℕ) (ns : Option (List ℕ)) (after : Option (List ℕ × List ℕ)) (max : ℕ) (s : Objects) → begins ns after ≡ None → page kind ns after max s ≡ []
-page_none kind ns after max s e = ap (take max) (begins_none kind ns after s e) ∙ take_nothing max
-
-pub page_one : (kind : ℕ) (ns : Option (List ℕ)) (after : Option (List ℕ × List ℕ)) (max : ℕ) (s : Objects) (first : List ℕ) (name : Option (List ℕ)) → is_some ns ≡ true → begins ns after ≡ Some (first, name)
-    → page kind ns after max s ≡ take max (in_one kind first name s)
-page_one kind None after max s first name named e = absurd (subst T (sym named) tt)
-page_one kind (Some ns) after max s first name named e = ap (take max) (begins_one kind ns after s first name e)
-
-pub page_all : (kind : ℕ) (ns : Option (List ℕ)) (after : Option (List ℕ × List ℕ)) (max : ℕ) (s : Objects) (first : List ℕ) (name : Option (List ℕ)) → is_some ns ≡ false → begins ns after ≡ Some (first, name)
-    → page kind ns after max s ≡ take max (in_one kind first name s ++ in_later kind first s)
-page_all kind None after max s first name named e = ap (take max) (begins_all kind after s first name e)
-page_all kind (Some ns) after max s first name named e = absurd (subst T named tt)
+-- ---- whether a namespace is named
 
 pub still_some : {X Y : Type 0} (f : X → Y) (o : Option X) → is_some (option_map f o) ≡ is_some o
 still_some f None = refl

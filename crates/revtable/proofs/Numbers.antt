@@ -8,12 +8,12 @@ use Rattle.std.specs.FinMap as fin
 use Rattle.std.specs.FinMap.Entries.{find}
 use Rattle.sqlite.specs.Order.{Row, column}
 use Rattle.sqlite.specs.declared.types.Value.TheVariants.{Int}
-use Rattle.sqlite_keyed.proofs.ListLemmas.{all_weaker, filter-filter, map_back}
+use Rattle.sqlite_keyed.proofs.ListLemmas.{all_weaker, filter-filter}
 use Rattle.revtable.specs.Asked.{as_change, under}
-use Rattle.revtable.specs.Decoded.{entry_shown, object_shown}
+use Rattle.revtable.specs.Decoded.{object_shown}
 use Rattle.history.specs.History.{Key, Change, Object, Objects, History, IsHistory, IsRising, key_cmp, last_revision, changed, is_same_key, later, left_by, put_or_remove, state_at, up_to}
 use Rattle.history.specs.Kept.{IsPruned, with_body}
-use Rattle.history.specs.Page.{changes_within, is_within, listed, page, picked}
+use Rattle.history.specs.Page.{changes_within, is_within, picked}
 use Rattle.sqlite.specs.Tree.{IsAscending}
 use Rattle.revtable.specs.Rows.{shown, number_in}
 use Rattle.history.proofs.Keys.{key_cmp_total}
@@ -162,19 +162,6 @@ spans_few h from to p is =
 
 -- ---- what the rows of an answer are read as
 
--- the rows of a page
-pub at_is : (h : History) (kind : ℕ) (ns : Option (List ℕ)) (after : Option (List ℕ × List ℕ)) (r most rv mx : ℕ) (rows : List Row) → IsPruned h → rv ≡ min r h.current → mx ≡ min most last_revision
-    → rows ≡ map (λ e. shown (as_change e)) (page kind ns after mx (state_at h.changes rv)) → map entry_shown rows ≡ page kind ns after most (state_at h.changes r)
-at_is h kind ns after r most rv mx rows p revision max_is found =
-    ap (map entry_shown) found ∙ map_back (λ e. shown (as_change e)) entry_shown (λ e. refl) (page kind ns after mx (state_at h.changes rv))
-    ∙ ap (λ n. page kind ns after mx (state_at h.changes n)) revision ∙ ap (page kind ns after mx) (state_min h r p.is)
-    ∙ ap (λ n. page kind ns after n (state_at h.changes r)) max_is
-    ∙ take_min most (listed kind ns after (state_at h.changes r)) (objects_few h r _ p.is)
-
-pub at_whole : (h : History) (kind : ℕ) (ns : Option (List ℕ)) (after : Option (List ℕ × List ℕ)) (r most : ℕ) → IsPruned h → last_revision ≤ most
-    → page kind ns after most (state_at h.changes r) ≡ listed kind ns after (state_at h.changes r)
-at_whole h kind ns after r most p le = take_most most (listed kind ns after (state_at h.changes r)) (objects_few h r _ p.is) le
-
 -- the changes of a span, whose ends count as at most the current revision
 pub span_is : (h : History) (kind : ℕ) (ns : Option (List ℕ)) (from to most f t mx : ℕ) → IsPruned h → f ≡ min from h.current → t ≡ min to h.current → mx ≡ min most last_revision
     → take mx (picked kind ns (up_to t (later f h.changes))) ≡ changes_within kind ns most (up_to to (later from h.changes))
@@ -226,7 +213,7 @@ none_between f t (c ∷ cs) le = go (nat_lt f c.revision) refl (none_between f t
         let a : f < c.revision = ltb-true _ _ e in
         ap (λ b. cond b (c ∷ up_to t (later f cs)) (up_to t (later f cs))) (lt-leb c.revision t (omega arith)) ∙ none
 
-take_nothing : {X : Type 0} (m : ℕ) → take {A = X} m [] ≡ []
+pub take_nothing : {X : Type 0} (m : ℕ) → take {A = X} m [] ≡ []
 take_nothing zero = refl
 take_nothing (suc m) = refl
 

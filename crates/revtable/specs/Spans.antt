@@ -109,10 +109,14 @@ stored_of h = record { spans = spans_of h.changes; current = h.current; compacte
 abbrev pub history_of : Stored → History
 history_of st = record { changes = changes_in st.spans; current = st.current; compacted = st.compacted }
 
--- once the next change is written
+-- once the rows of the next change are written: the row that stands under its key ends, and one begins
+abbrev pub rows_put : ℕ → Key → Option (List ℕ) → Stored → Stored
+rows_put r k body st = record { spans = ended_by k r (is_none body) st.spans ++ spans_until k r body None; current = st.current; compacted = st.compacted }
+
+-- and the two numbers too
 abbrev pub put_in : ℕ → ℕ → Key → Option (List ℕ) → Stored → Stored
 put_in current compacted k body st =
-    record { spans = ended_by k current (is_none body) st.spans ++ spans_until k current body None; current = current; compacted = compacted }
+    record { spans = (rows_put current k body st).spans; current = current; compacted = compacted }
 
 -- once it is compacted
 abbrev pub pruned_in : ℕ → ℕ → Stored → Stored

@@ -13,3 +13,17 @@ pub trait Keep {
     fn keeps(&self, text: &str) -> Result<bool, AllocError>
         ensures { IfOk result (λ b. b ≡ kept self.now text.now) };
 }
+
+/// Keeps every object.
+#[derive(Clone, Copy)]
+pub(crate) struct Every;
+
+impl Keep for Every {
+    ghost use Rattle.std.specs.Prelude.{true};
+
+    ghost kept = { λ every text. true };
+
+    fn keeps(&self, _: &str) -> Result<bool, AllocError> {
+        Ok(true)
+    }
+}

@@ -1,19 +1,21 @@
-//! Pages of objects: what is left of one namespace, and then what the namespaces after it have. The statements stand in
-//! `statements`.
+//! Pages of objects whose texts are kept: what is left of one namespace, and then what the namespaces after it have. The
+//! statements stand in `statements`, and what reads their rows in `first_kept`.
 
-ghost use Rattle.std.specs.Prelude.{◌≡◌, [], ◌∷◌, ◌++◌, ℕ, ◌^◌, ◌<◌, List, Option, map, take, IfOk, option_map, string_bytes};
-ghost use Rattle.revtable.specs.Asked.{as_change, begins as place_of, in_later, in_one, low_of};
+ghost use Rattle.std.specs.Prelude.{◌≡◌, [], ◌∷◌, ◌++◌, ℕ, ◌^◌, ◌<◌, List, Option, map, IfOk, option_map, string_bytes};
 ghost use Rattle.history.specs.History.{state_at};
-ghost use Rattle.history.specs.Page.{page};
-ghost use Rattle.revtable.specs.Rows.{shown};
+ghost use Rattle.history.specs.Page.{listed};
+ghost use Rattle.history.specs.Read.{entry_of};
+ghost use Rattle.revtable.specs.Asked.{begins as place_of, in_later, in_one, low_of};
+ghost use Rattle.revtable.specs.Kept.{first_kept};
 
 use crate::fault::Fault;
+use crate::keep::Keep;
 use crate::table::Table;
-use sqlite::Row;
+use history::Entry;
 use std::alloc::{AllocError, Global};
 use std::cmp::Ordering;
 
-/// What a page has: objects of a type, as they stood at a revision, and at most so many.
+/// What a page has: objects of a type, as they stood at a revision, and at most so many of those that are kept.
 #[derive(Clone, Copy, Debug)]
 pub(crate) struct Wanted {
     pub(crate) kind: u32,
@@ -61,73 +63,76 @@ pub(crate) fn lowest(alloc: Global, after: Option<&str>) -> Result<String, Alloc
     }
 }
 
-/// The first objects of a type in one namespace at a revision, after a name if one is given.
-fn listed_after(
+/// The first kept of the objects of a type in one namespace at a revision, after a name if one is given.
+fn kept_after<K: Keep>(
     alloc: Global,
     table: &mut Table,
     wanted: Wanted,
     namespace: &str,
     after: Option<&str>,
-) -> Result<Vec<Row>, Fault>
+    keep: &K,
+) -> Result<Vec<Entry>, Fault>
     requires fits { wanted.revision < 2 ^ 63 }
-    requires max { wanted.max < 2 ^ 63 }
     ensures same { table.new ≡ table.old }
-    ensures ok { IfOk result (λ rows. rows.items ≡ map (λ e. shown (as_change e))
-        (take wanted.max (in_one wanted.kind namespace.now (option_map (λ b. b.now) after.entry) (state_at table.old.changes wanted.revision)))) }
+    ensures ok { IfOk result (λ v. map entry_of v.items
+        ≡ first_kept (K.Keep.kept keep.now) wanted.max (in_one wanted.kind namespace.now (option_map (λ b. b.now) after.entry) (state_at table.old.changes wanted.revision))) }
 {
     let low = lowest(alloc, after)?;
-    table.listed_in(
-        wanted.kind,
-        namespace,
-        low.as_str(),
-        wanted.revision,
-        wanted.max,
-    )
+    table.kept_in(wanted, namespace, low.as_str(), keep)
 }
 
-/// The first objects of a type at a revision: what is left of a namespace, and then of those after it.
-fn listed_on(
+/// The first kept of the objects of a type at a revision: of what is left of a namespace, and then of those after it.
+fn kept_on<K: Keep>(
     alloc: Global,
     table: &mut Table,
     wanted: Wanted,
     first: &str,
     name: Option<&str>,
-) -> Result<Vec<Row>, Fault>
+    keep: &K,
+) -> Result<Vec<Entry>, Fault>
     requires fits { wanted.revision < 2 ^ 63 }
-    requires max { wanted.max < 2 ^ 63 }
     ensures same { table.new ≡ table.old }
-    ensures ok { IfOk result (λ rows. rows.items ≡ map (λ e. shown (as_change e))
-        (take wanted.max (in_one wanted.kind first.now (option_map (λ b. b.now) name.entry) (state_at table.old.changes wanted.revision)
-        ++ in_later wanted.kind first.now (state_at table.old.changes wanted.revision)))) }
+    ensures ok { IfOk result (λ v. map entry_of v.items ≡ first_kept (K.Keep.kept keep.now) wanted.max
+        (in_one wanted.kind first.now (option_map (λ b. b.now) name.entry) (state_at table.old.changes wanted.revision)
+        ++ in_later wanted.kind first.now (state_at table.old.changes wanted.revision))) }
 {
-    let mut rows = listed_after(alloc, table, wanted, first, name)?;
-    let left = wanted.max.saturating_sub(rows.len() as u64);
+    let mut found = kept_after(alloc, table, wanted, first, name, keep)?;
+    let left = wanted.max.saturating_sub(found.len() as u64);
+    if left == 0 {
+        return Ok(found);
+    }
     let next = next_after(alloc, first)?;
-    let mut more = table.listed_from(wanted.kind, next.as_str(), wanted.revision, left)?;
-    rows.append(&mut more)?;
-    Ok(rows)
+    let rest = Wanted {
+        kind: wanted.kind,
+        revision: wanted.revision,
+        max: left,
+    };
+    let mut more = table.kept_from(rest, next.as_str(), keep)?;
+    found.append(&mut more)?;
+    Ok(found)
 }
 
-/// The first objects of a type, and of a namespace if one is named, at a revision and after a namespace and name.
-pub(crate) fn listed(
+/// The first kept of the objects of a type, and of a namespace if one is named, at a revision and after a namespace and
+/// name.
+pub(crate) fn listed<K: Keep>(
     alloc: Global,
     table: &mut Table,
     wanted: Wanted,
     namespace: Option<&str>,
     after: Option<(&str, &str)>,
-) -> Result<Vec<Row>, Fault>
+    keep: &K,
+) -> Result<Vec<Entry>, Fault>
     requires fits { wanted.revision < 2 ^ 63 }
-    requires max { wanted.max < 2 ^ 63 }
     ensures same { table.new ≡ table.old }
-    ensures ok { IfOk result (λ rows. rows.items ≡ map (λ e. shown (as_change e))
-        (page wanted.kind (option_map (λ b. b.now) namespace.entry) (option_map (λ p. (p.0.now, p.1.now)) after.entry) wanted.max (state_at table.old.changes wanted.revision))) }
+    ensures ok { IfOk result (λ v. map entry_of v.items ≡ first_kept (K.Keep.kept keep.now) wanted.max
+        (listed wanted.kind (option_map (λ b. b.now) namespace.entry) (option_map (λ p. (p.0.now, p.1.now)) after.entry) (state_at table.old.changes wanted.revision))) }
 {
     let Some((first, name)) = begins(namespace, after) else {
         return Ok(Vec::new(alloc));
     };
     if namespace.is_some() {
-        listed_after(alloc, table, wanted, first, name)
+        kept_after(alloc, table, wanted, first, name, keep)
     } else {
-        listed_on(alloc, table, wanted, first, name)
+        kept_on(alloc, table, wanted, first, name, keep)
     }
 }

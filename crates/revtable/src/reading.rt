@@ -1,11 +1,11 @@
 //! Reads rows as changes and objects. The statements that give the rows stand in `statements`.
 
 ghost use Rattle.std.specs.Prelude.{◌≡◌, IfOk, map};
-ghost use Rattle.revtable.specs.Decoded.{key_shown, change_shown, entry_shown, marks_shown, object_shown};
-ghost use Rattle.history.specs.Read.{change_of, entry_of, key_of, object_of};
+ghost use Rattle.revtable.specs.Decoded.{key_shown, change_shown, marks_shown, object_shown};
+ghost use Rattle.history.specs.Read.{change_of, key_of, object_of};
 
 use crate::fault::Fault;
-use history::{Change, Entry, Key, Marks, Object};
+use history::{Change, Key, Marks, Object};
 use sqlite::{Error, Row};
 use std::alloc::Global;
 
@@ -38,31 +38,12 @@ pub(crate) fn read_object(row: &Row) -> Result<Object, Error>
     })
 }
 
-fn read_entry(row: &Row) -> Result<Entry, Error>
-    ensures { IfOk result (λ e. entry_of e ≡ entry_shown row.now) }
-{
-    Ok(Entry {
-        key: read_key(row)?,
-        object: read_object(row)?,
-    })
-}
-
 pub(crate) fn read_changes(alloc: Global, rows: &[Row]) -> Result<Vec<Change>, Fault>
     ensures { IfOk result (λ v. map change_of v.items ≡ map change_shown rows.now) }
 {
     let mut all = Vec::new(alloc);
     for row in rows {
         all.push(read_change(row)?)?;
-    }
-    Ok(all)
-}
-
-pub(crate) fn read_entries(alloc: Global, rows: &[Row]) -> Result<Vec<Entry>, Fault>
-    ensures { IfOk result (λ v. map entry_of v.items ≡ map entry_shown rows.now) }
-{
-    let mut all = Vec::new(alloc);
-    for row in rows {
-        all.push(read_entry(row)?)?;
     }
     Ok(all)
 }

@@ -1,18 +1,21 @@
-//! The SELECT statements over the table's rows. What they give is read in `reading`; `writing` adds and ends rows, and
-//! `compaction` deletes some.
+//! The SELECT statements over the table's rows. What they give is read in `reading` and `first_kept`; `writing` adds and ends
+//! rows, and `compaction` deletes some.
 
-ghost use Rattle.std.specs.Prelude.{◌≡◌, [], ◌∷◌, ℕ, ◌^◌, ◌<◌, List, Option, pos, min, length, map, take, IfOk, option_map};
-ghost use Rattle.history.specs.Read.{key_of};
+ghost use Rattle.std.specs.Prelude.{◌≡◌, [], ◌∷◌, ℕ, ◌^◌, ◌<◌, List, Option, pos, min, length, map, IfOk, option_map};
+ghost use Rattle.history.specs.Read.{entry_of, key_of};
 ghost use Rattle.revtable.specs.Asked.{as_change, deletions, in_from, in_one, low_of, under};
 ghost use Rattle.history.specs.History.{last_revision, later, state_at, up_to};
 ghost use Rattle.history.specs.Kept.{IsPruned, with_body};
 ghost use Rattle.history.specs.Page.{changes_within};
+ghost use Rattle.revtable.specs.Kept.{first_kept};
 ghost use Rattle.revtable.specs.Rows.{shown};
 ghost use Rattle.sqlite.specs.declared.types.Value.TheVariants.{Int};
 
 use crate::fault::Fault;
+use crate::keep::Keep;
+use crate::paging::Wanted;
 use crate::table::Table;
-use history::Key;
+use history::{Entry, Key, LAST_REVISION};
 use sqlite::{Row, params};
 
 impl Table {
@@ -72,44 +75,56 @@ impl Table {
         )
     }
 
-    /// The first objects of a type in one namespace at a revision, from a text on that their names begin from. The
+    /// The first kept of the objects of a type in one namespace at a revision, from a text on that their names begin from. The
     /// index by key begins there and ends with the namespace, or where there are enough.
-    pub(crate) fn listed_in(
+    pub(crate) fn kept_in<K: Keep>(
         &mut self,
-        kind: u32,
+        wanted: Wanted,
         namespace: &str,
         low: &str,
-        revision: u64,
-        max: u64,
-    ) -> Result<Vec<Row>, Fault>
-        requires fits { revision < 2 ^ 63 }
-        requires max { max < 2 ^ 63 }
-        ensures ok { (name : Option (List ℕ)) → low.now ≡ low_of name → IfOk result (λ rows. rows.items ≡ map (λ e. shown (as_change e))
-            (take max (in_one kind namespace.now name (state_at self.old.changes revision)))) }
+        keep: &K,
+    ) -> Result<Vec<Entry>, Fault>
+        requires fits { wanted.revision < 2 ^ 63 }
+        ensures ok { (name : Option (List ℕ)) → low.now ≡ low_of name → IfOk result (λ v. map entry_of v.items
+            ≡ first_kept (K.Keep.kept keep.now) wanted.max (in_one wanted.kind namespace.now name (state_at self.old.changes wanted.revision))) }
         ensures same { self.new ≡ self.old }
     {
-        self.ask(
+        self.ask_kept(
             "SELECT first, kind, namespace, name, body FROM object WHERE kind = ?3 AND namespace = ?4 AND name >= ?5 AND first <= ?1 AND (ended IS NULL OR ended > ?1) ORDER BY namespace, name LIMIT ?2",
-            params![revision as i64, max as i64, kind, namespace, low],
+            params![
+                wanted.revision as i64,
+                LAST_REVISION as i64,
+                wanted.kind,
+                namespace,
+                low
+            ],
+            wanted.max,
+            keep,
         )
     }
 
-    /// The first objects of a type in the namespaces from a text on at a revision.
-    pub(crate) fn listed_from(
+    /// The first kept of the objects of a type in the namespaces from a text on at a revision.
+    pub(crate) fn kept_from<K: Keep>(
         &mut self,
-        kind: u32,
+        wanted: Wanted,
         low: &str,
-        revision: u64,
-        max: u64,
-    ) -> Result<Vec<Row>, Fault>
-        requires fits { revision < 2 ^ 63 }
-        requires max { max < 2 ^ 63 }
-        ensures ok { IfOk result (λ rows. rows.items ≡ map (λ e. shown (as_change e)) (take max (in_from kind low.now (state_at self.old.changes revision)))) }
+        keep: &K,
+    ) -> Result<Vec<Entry>, Fault>
+        requires fits { wanted.revision < 2 ^ 63 }
+        ensures ok { IfOk result (λ v. map entry_of v.items
+            ≡ first_kept (K.Keep.kept keep.now) wanted.max (in_from wanted.kind low.now (state_at self.old.changes wanted.revision))) }
         ensures same { self.new ≡ self.old }
     {
-        self.ask(
+        self.ask_kept(
             "SELECT first, kind, namespace, name, body FROM object WHERE kind = ?3 AND namespace >= ?4 AND first <= ?1 AND (ended IS NULL OR ended > ?1) ORDER BY namespace, name LIMIT ?2",
-            params![revision as i64, max as i64, kind, low],
+            params![
+                wanted.revision as i64,
+                LAST_REVISION as i64,
+                wanted.kind,
+                low
+            ],
+            wanted.max,
+            keep,
         )
     }
 

@@ -15,12 +15,11 @@ ghost use Rattle.sqlite.specs.Listing.{reads_listing, understood};
 ghost use Rattle.sqlite.specs.Values.{bound};
 
 use crate::fault::Fault;
-use crate::first_kept;
-use crate::keep::Keep;
+use crate::keep::{Every, Keep};
 use crate::memory::{self, MemoryLog};
 use crate::merging::{merged, reached};
 use crate::paging::{self, Wanted};
-use crate::reading::{read_entries, read_object};
+use crate::reading::read_object;
 use history::{Change, Entry, Key, LAST_REVISION, Marks, Object, Write};
 use sqlite::Row;
 use sqlite::types::ValueRef;
@@ -167,16 +166,7 @@ impl Table {
             ≡ listed kind (option_map (λ b. b.now) namespace.entry) (option_map (λ p. (p.0.now, p.1.now)) after.entry) (state_at self.old.changes revision)) }
         ensures same { self.new ≡ self.old }
     {
-        let revision = revision.min(self.current);
-        let max = max.min(MOST_ROWS);
-        let alloc = self.alloc;
-        let wanted = Wanted {
-            kind,
-            revision,
-            max,
-        };
-        let rows = paging::listed(alloc, self, wanted, namespace, after)?;
-        read_entries(alloc, &rows)
+        self.first_kept(kind, namespace, revision, after, max, &Every)
     }
 
     /// The first `max` of the objects that `at` lists whose texts are kept. With the last of them reading stops.
@@ -200,7 +190,7 @@ impl Table {
             revision: revision.min(self.current),
             max,
         };
-        first_kept::listed(self.alloc, self, wanted, namespace, after, keep)
+        paging::listed(self.alloc, self, wanted, namespace, after, keep)
     }
 
     /// The first `max` changes of a type after one revision up to another, oldest first: of one namespace or of all.
@@ -228,16 +218,8 @@ impl Table {
         merged(self.alloc, &made, &deleted, max)
     }
 
-    /// How many rows hold an object: as many as there are kept changes with a body.
+    /// How many rows the objects' table has: as many as there are kept changes with a body, since a deletion has none.
     pub fn rows(&mut self) -> Result<u64, Fault>
-        ensures ok { IfOk result (λ n. n ≡ length (with_body self.old.changes)) }
-        ensures same { self.new ≡ self.old }
-    {
-        self.stored_rows()
-    }
-
-    /// How many rows the objects' table has in all. Each holds an object; a deletion has none.
-    pub fn stored_rows(&mut self) -> Result<u64, Fault>
         ensures ok { IfOk result (λ n. n ≡ length (with_body self.old.changes)) }
         ensures same { self.new ≡ self.old }
     {

@@ -9,7 +9,7 @@ ghost use Rattle.history.specs.History.{Change, History, IsRising};
 ghost use Rattle.history.specs.Read.{key_of, write_of};
 ghost use Rattle.history.specs.Writes.{written_all};
 ghost use Rattle.revtable.specs.Rows.{stored_in, Amid, AreBelow, IsAlwaysClean, IsOrdered, Keeps, Undone};
-ghost use Rattle.revtable.specs.Spans.{Stored, ended_by, ended_from, last_span, put_in, spans_of, spans_until, stored_of};
+ghost use Rattle.revtable.specs.Spans.{Stored, ended_by, ended_from, last_span, put_in, rows_put, spans_of, spans_until, stored_of};
 ghost use Rattle.sqlite.specs.Held.{state};
 ghost use Rattle.sqlite.specs.declared.types.Value.TheVariants.{Int};
 
@@ -137,6 +137,26 @@ pub(crate) fn set_marks<S: Alter>(
     Ok(())
 }
 
+/// Writes the rows of the next change.
+fn write_rows<S: Alter>(
+    writing: &mut Transaction<'_, S>,
+    revision: u64,
+    key: &Key,
+    body: Option<&str>,
+) -> Result<(), Fault>
+    requires clean { IsAlwaysClean S.Store }
+    requires fits { revision < 2 ^ 63 }
+    ensures same_reference { writing.new.conn.ghost_name ≡ writing.old.conn.ghost_name }
+    ensures ok { (start st : Stored) (cs : List Change) (top : ℕ) → IsRising 0 cs top → top < revision → st.spans ≡ spans_of cs → Amid start st (state S.Store writing.old.conn.now)
+        → OnOk result (Amid start (rows_put revision (key_of key.now) (option_map (λ b. b.now) body.entry) st) (state S.Store writing.new.conn.now)) }
+    ensures err { (start st : Stored) (cs : List Change) (top : ℕ) → IsRising 0 cs top → top < revision → st.spans ≡ spans_of cs → Amid start st (state S.Store writing.old.conn.now)
+        → OnErr result (Undone start (state S.Store writing.new.conn.now)) }
+{
+    end_current_objects(writing, key, revision, body.is_none())?;
+    begin_row(writing, revision, key, body)?;
+    Ok(())
+}
+
 /// Writes the change of a key at the revision that is current once it is written.
 fn write_change<S: Alter>(
     writing: &mut Transaction<'_, S>,
@@ -153,8 +173,7 @@ fn write_change<S: Alter>(
     ensures err { (start st : Stored) (cs : List Change) (top : ℕ) → IsRising 0 cs top → top < marks.current → st.spans ≡ spans_of cs → Amid start st (state S.Store writing.old.conn.now)
         → OnErr result (Undone start (state S.Store writing.new.conn.now)) }
 {
-    end_current_objects(writing, key, marks.current, body.is_none())?;
-    begin_row(writing, marks.current, key, body)?;
+    write_rows(writing, marks.current, key, body)?;
     set_marks(writing, marks)?;
     Ok(())
 }
@@ -182,10 +201,10 @@ pub(crate) fn put<S: Alter>(
     Ok(())
 }
 
-/// Writes several changes, each at the revision after the one before; the first is the one after these numbers.
+/// Writes several changes, each at the revision after the one before; the first is the one after these numbers, which are set once.
 fn write_changes<S: Alter>(
     writing: &mut Transaction<'_, S>,
-    mut marks: Marks,
+    marks: Marks,
     writes: &[Write],
 ) -> Result<(), Fault>
     requires clean { IsAlwaysClean S.Store }
@@ -197,10 +216,15 @@ fn write_changes<S: Alter>(
     ensures err { (start : Stored) (h : History) → IsRising 0 h.changes h.current → h.current ≡ marks.current → h.compacted ≡ marks.compacted → Amid start (stored_of h) (state S.Store writing.old.conn.now)
         → OnErr result (Undone start (state S.Store writing.new.conn.now)) }
 {
+    let Marks {
+        mut current,
+        compacted,
+    } = marks;
     for write in writes {
-        marks.current += 1;
-        write_change(writing, marks, &write.key, write.body.as_deref())?;
+        current += 1;
+        write_rows(writing, current, &write.key, write.body.as_deref())?;
     }
+    set_marks(writing, Marks { current, compacted })?;
     Ok(())
 }
 

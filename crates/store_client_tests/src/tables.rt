@@ -87,7 +87,7 @@ impl Answers for Tabled {
         let (one, other) = first_word(words);
         let table = &mut self.table;
         match call {
-            "rows" => in_words(alloc, (table.rows(), table.stored_rows())),
+            "rows" => in_words(alloc, table.rows()),
             "marks" => in_words(alloc, table.marks()),
             "seen" => seen(alloc, table),
             "page" => page(alloc, table, one, other),
@@ -183,11 +183,11 @@ add w1 e => Ok(true)
 add w2 f => Ok(true)
 remove w2 => Ok(true)
 marks => Marks { current: 8, compacted: 1 }
-rows => (Ok(6), Ok(6))
+rows => Ok(6)
 prune - 5 => Ok(true)
-rows => (Ok(3), Ok(3))
+rows => Ok(3)
 prune - 8 => Ok(true)
-rows => (Ok(1), Ok(1))
+rows => Ok(1)
 marks => Marks { current: 8, compacted: 8 }
 
 table 9223372036854775806 the_highest_revision
@@ -196,15 +196,15 @@ marks => Marks { current: 9223372036854775807, compacted: 9223372036854775806 }
 stood w1 18446744073709551615 => Ok(Some(Object { revision: 9223372036854775807, body: "a" }))
 page - 18446744073709551615 18446744073709551615 => Ok([Entry { key: Key { kind: 7, namespace: "default", name: "w1" }, object: Object { revision: 9223372036854775807, body: "a" } }])
 prune - 18446744073709551615 => Ok(true)
-rows => (Ok(1), Ok(1))
+rows => Ok(1)
 
 table 0 a_table_that_is_opened: without a revision, so that it begins at 1
 marks => Marks { current: 1, compacted: 1 }
-rows => (Ok(0), Ok(0))
+rows => Ok(0)
 add w1 a => Ok(true)
 marks => Marks { current: 2, compacted: 1 }
 stood w1 2 => Ok(Some(Object { revision: 2, body: "a" }))
-rows => (Ok(1), Ok(1))
+rows => Ok(1)
 
 table 1 pages_are_in_the_order_of_keys: of all and of one namespace, whole and after a key, of ten and of one
 add b b2 => Ok(true)

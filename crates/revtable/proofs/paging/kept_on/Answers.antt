@@ -6,7 +6,7 @@ use Rattle.revtable.specs.Kept.{first_kept}
 use Rattle.history.specs.Read.{entry_of}
 use Rattle.revtable.proofs.FirstKept.{kept_both, kept_full}
 use Rattle.revtable.proofs.Halves.{from_next}
-use Rattle.revtable.proofs.first_kept.kept_on.Goals as goal
+use Rattle.revtable.proofs.paging.kept_on.Goals as goal
 
 pub returns-then-left-eq0-clause-ok : goal.returns-then-left-eq0-clause-ok
 returns-then-left-eq0-clause-ok g c =

@@ -1,6 +1,6 @@
 use Rattle.std.proofs.Common.{ap, ◌∙◌, slice_get}
 use Rattle.revtable.proofs.Numbers.{count_is}
-use Rattle.revtable.proofs.table.Table.stored_rows.Goals as goal
+use Rattle.revtable.proofs.table.Table.rows.Goals as goal
 
 pub returns-clause-ok : goal.returns-clause-ok
 returns-clause-ok c =
