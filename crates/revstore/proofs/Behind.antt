@@ -1,5 +1,5 @@
 -- A table behind writes that wait: what stays where they are written, and where one more waits.
-use Rattle.std.proofs.Common.{◌≡◌, ℕ, suc, ◌+◌, ◌≤◌, Bool, true, false, cond, ◌||◌, List, [], ◌∷◌, ◌++◌, length, map, Option, Some, None, option_map, refl, sym, ap, subst, ◌∙◌, arith, true≢false, length-append}
+use Rattle.std.proofs.Common.{◌≡◌, ℕ, suc, ◌+◌, ◌≤◌, Bool, true, false, cond, ◌||◌, IfSome, List, [], ◌∷◌, ◌++◌, length, map, Option, Some, None, option_map, refl, sym, ap, subst, ◌∙◌, arith, true≢false, length-append}
 use Rattle.std.proofs.lemmas.Slice.Eq.{bytes_eq-Decides}
 use Rattle.std.specs.FinMap as fin
 use Rattle.std.specs.List.{list_any}
@@ -10,7 +10,9 @@ use Rattle.history.specs.Writes.{changes_by, written_all}
 use Rattle.history.proofs.Keys.{get-put_or_remove, tied}
 use Rattle.history.proofs.Revisions.{changed-append, up_to-all}
 use Rattle.history.proofs.Writes.{changes_all, current_all, rising_all, written_all-push}
-use Rattle.revstore.specs.Waiting.{CanFollow, is_key}
+use Rattle.revstore.specs.ChangeWindow.{AreLatest}
+use Rattle.revstore.specs.Waiting.{CanFollow, is_key, waiting_in}
+use Rattle.revstore.specs.declared.window.ChangeWindow.{ChangeWindow}
 
 abbrev Writes : Type 0
 Writes = List (Key × Option (List ℕ))
@@ -21,8 +23,23 @@ Writes = List (Key × Option (List ℕ))
 pub nothing_follows : (t : History) (ws : Writes) → IsPruned t → ws ≡ [] → CanFollow t ws
 nothing_follows t ws pruned none = subst (CanFollow t) (sym none) (let high : t.current ≤ last_revision = pruned.is.high in omega arith, tt)
 
-pub settled : (t u : History) (ws : Writes) → u ≡ t → IsPruned t → ws ≡ [] → IsPruned u × CanFollow u ws
-settled t u ws same pruned none = let is : IsPruned u = subst IsPruned (sym same) pruned in (is, nothing_follows u ws is none)
+pub written_so : (t u : History) (ws : Writes) → u ≡ t → IsPruned t → ws ≡ [] → IsPruned u × CanFollow u ws
+written_so t u ws same pruned none = let is : IsPruned u = subst IsPruned (sym same) pruned in (is, nothing_follows u ws is none)
+
+-- the table is as it was written, and nothing waits
+pub settled : (t u : History) (w : Option ChangeWindow) → u ≡ t → IsPruned t → waiting_in w ≡ [] → IfSome w (AreLatest t) → IsPruned u × CanFollow u (waiting_in w) × IfSome w (AreLatest (written_all u (waiting_in w)))
+settled t u w same pruned none are =
+    let is : IsPruned u = subst IsPruned (sym same) pruned in
+    (is, nothing_follows u (waiting_in w) is none, subst (λ (h : History). IfSome w (AreLatest h)) (sym (ap (written_all u) none ∙ same)) are)
+
+-- the table is as it was, and the same waits
+pub still_waits : (t u : History) (w v : Option ChangeWindow) → u ≡ t → waiting_in v ≡ waiting_in w → IsPruned t → CanFollow t (waiting_in w) → IfSome v (AreLatest (written_all t (waiting_in w)))
+    → IsPruned u × CanFollow u (waiting_in v) × IfSome v (AreLatest (written_all u (waiting_in v)))
+still_waits t u w v same waits pruned can are = (
+  subst IsPruned (sym same) pruned,
+  subst (CanFollow u) (sym waits) (subst (λ (x : History). CanFollow x (waiting_in w)) (sym same) can),
+  subst (λ (h : History). IfSome v (AreLatest h)) (sym (ap (written_all u) waits ∙ ap (λ (x : History). written_all x (waiting_in w)) same)) are,
+)
 
 -- ---- one more waits
 

@@ -2,7 +2,8 @@
 use Rattle.std.specs.Prelude.{◌≡◌, ℕ, ◌+◌, ◌*◌, ◌%◌, ◌<◌, ◌^◌, fold, get_or, length, IfSome, List, Option, option_map}
 use Rattle.std.specs.FinMap as fin
 use Rattle.history.specs.History.{History, Key, current_objects}
-use Rattle.history.specs.Read.{key_of, object_of}
+use Rattle.history.specs.Read.{key_of}
+use Rattle.revstore.specs.Shared.{object_in}
 use Rattle.revstore.specs.declared.cached.CachedObject.{CachedObject}
 use Rattle.revstore.specs.declared.cached.ObjectCache.{ObjectCache}
 
@@ -20,11 +21,11 @@ slot_of k = sum_of (sum_of k.kind k.namespace) k.name % 64
 
 -- it stands under the key, or nothing does
 abbrev pub IsCurrent : History → CachedObject → Type 0
-IsCurrent h cached = option_map object_of cached.object ≡ fin.get (current_objects h) (key_of cached.key)
+IsCurrent h cached = option_map object_in cached.object ≡ fin.get (current_objects h) (key_of cached.key.value)
 
 -- each is in the slot of its key, and stands now
 abbrev pub AreCached : History → List (Option CachedObject) → Type 0
-AreCached h slots = (i : ℕ) (d : Option CachedObject) → i < length slots → IfSome (get_or slots i d) (λ cached. (slot_of (key_of cached.key) ≡ i) × IsCurrent h cached)
+AreCached h slots = (i : ℕ) (d : Option CachedObject) → i < length slots → IfSome (get_or slots i d) (λ cached. (slot_of (key_of cached.key.value) ≡ i) × IsCurrent h cached)
 
 -- so are those in these slots
 abbrev pub AreIn : History → ObjectCache → Type 0

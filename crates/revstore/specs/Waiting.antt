@@ -1,16 +1,25 @@
--- What waits to be written, behind what a table has.
-use Rattle.std.specs.Prelude.{ℕ, ◌+◌, ◌≤◌, ◌==◌, ◌&&◌, Bool, List, [], map, length, Option, Some, None}
+-- What waits to be written, behind what a table has: the last changes of the window.
+use Rattle.std.specs.Prelude.{ℕ, ◌+◌, ◌≤◌, ◌==◌, ◌&&◌, Bool, List, [], drop, length, map, Option, Some, None, option_map}
+use Rattle.std.specs.Rc.{rc_str_bytes}
 use Rattle.std.specs.Str.{bytes_eq}
 use Rattle.history.specs.History.{History, Key, current_objects, last_revision}
-use Rattle.history.specs.Read.{write_of}
+use Rattle.history.specs.Read.{key_of}
 use Rattle.history.specs.Whole.{AreThere}
 use Rattle.history.specs.Writes.{changes_by}
-use Rattle.revstore.specs.declared.batched.Waiting.{Waiting}
+use Rattle.revstore.specs.declared.window.Latest.{Latest}
+use Rattle.revstore.specs.declared.window.ChangeWindow.{ChangeWindow}
 
--- the writes, oldest first
-abbrev pub writes_in : Option Waiting → List (Key × Option (List ℕ))
-writes_in None = []
-writes_in (Some w) = map write_of w.writes.items
+-- the write that made a change
+abbrev pub write_in : Latest → Key × Option (List ℕ)
+write_in l = (key_of l.key.value, option_map rc_str_bytes l.body)
+
+-- those of a window that no table has
+abbrev pub waiting_of : ChangeWindow → List (Key × Option (List ℕ))
+waiting_of w = map write_in (drop w.written w.latest.items)
+
+abbrev pub waiting_in : Option ChangeWindow → List (Key × Option (List ℕ))
+waiting_in None = []
+waiting_in (Some w) = waiting_of w
 
 -- they can be written behind this history
 abbrev pub CanFollow : History → List (Key × Option (List ℕ)) → Type 0

@@ -1,53 +1,51 @@
-//! A table whose latest writes wait, and are written together: where the table itself is asked, or where too many wait.
+//! A table with the window of the latest changes in front of it: a write puts its change there, and those that wait are written
+//! together, where the table itself is asked, or where too many wait.
 
-ghost use Rattle.std.specs.Prelude.{◌≡◌, suc, ◌+◌, ◌≤◌, true, false, [], ◌∷◌, ◌++◌, length, map, IfOk, OnOk, OnErr, None, option_map};
+ghost use Rattle.std.specs.Prelude.{◌≡◌, suc, ◌+◌, ◌-◌, ◌≤◌, true, false, [], length, map, IfOk, IfSome, OnOk, OnErr, None, option_map};
 ghost use Rattle.std.specs.FinMap as fin;
 ghost use Rattle.std.specs.List.{list_any};
-ghost use Rattle.history.specs.History.{last_revision, later, current_objects, state_at, up_to, written};
-ghost use Rattle.history.specs.Kept.{IsPruned, between_marks, pruned};
-ghost use Rattle.history.specs.Page.{changes_within, listed, page, picked};
+ghost use Rattle.std.specs.Rc.{rc_str_bytes};
+ghost use Rattle.history.specs.History.{History, last_revision, later, current_objects, state_at, written};
+ghost use Rattle.history.specs.Kept.{IsPruned, pruned};
+ghost use Rattle.history.specs.Page.{changes_within, listed, page};
 ghost use Rattle.history.specs.Read.{change_of, entry_of, key_of, object_of, write_of};
 ghost use Rattle.history.specs.Whole.{AreThere};
 ghost use Rattle.history.specs.Writes.{changes_by, written_all};
 ghost use Rattle.revtable.specs.Kept.{first_kept, kept_among};
-ghost use Rattle.revstore.specs.Waiting.{CanFollow, is_key, writes_in};
+ghost use Rattle.revstore.specs.ChangeWindow.{AreLatest, IsBeforeNext};
+ghost use Rattle.revstore.specs.Shared.{object_in};
+ghost use Rattle.revstore.specs.Waiting.{CanFollow, is_key, waiting_in, waiting_of};
 
-use crate::copies::{bytes_of_texts, copy_of_body, copy_of_key, is_same_key};
+use crate::copies::copy_of_object;
+use crate::shared::{SharedObject, shared_object};
+use crate::window::{
+    ChangeWindow, Latest, count, is_full, is_waiting, known_before, known_changes, once_compacted,
+    push_change, remember_before, waiting_writes,
+};
 use history::{Change, Entry, Key, Marks, Object, Write};
 use revtable::{Fault, Keep, Table};
 use std::marker::Model;
+use std::mem;
 
-/// So many writes wait at most.
-const MOST_WAITING: usize = 64;
-
-/// So many bytes of texts wait at most, but for those of the last write: 256 KiB.
-const MOST_BYTES: usize = 262144;
-
-/// What is to be written next, oldest first.
-#[derive(Drop)]
-pub(crate) struct Waiting {
-    writes: Vec<Write>,
-    /// How many bytes their texts have.
-    bytes: usize,
-}
-
-/// A table, and what waits to be written there. It is seen as the history with both.
+/// A table, and the latest changes, of which the last wait to be written there. It is seen as the history with these.
 pub(crate) struct BatchedTable {
     table: Table,
-    waiting: Option<Waiting>,
+    window: Option<ChangeWindow>,
 }
 
 impl Model for BatchedTable {
+    ghost use Rattle.std.specs.Prelude.{IfSome};
     ghost use Rattle.history.specs.History.{History};
     ghost use Rattle.history.specs.Kept.{IsPruned};
     ghost use Rattle.history.specs.Writes.{written_all};
-    ghost use Rattle.revstore.specs.Waiting.{CanFollow, writes_in};
+    ghost use Rattle.revstore.specs.ChangeWindow.{AreLatest};
+    ghost use Rattle.revstore.specs.Waiting.{CanFollow, waiting_in};
 
     ghost Value = { History };
 
-    ghost view = { λ t. written_all t.table (writes_in t.waiting) };
+    ghost view = { λ t. written_all t.table (waiting_in t.window) };
 
-    ghost invariant = { λ t. IsPruned t.table × CanFollow t.table (writes_in t.waiting) };
+    ghost invariant = { λ t. IsPruned t.table × CanFollow t.table (waiting_in t.window) × IfSome t.window (AreLatest (written_all t.table (waiting_in t.window))) };
 }
 
 // It is written out, so that what holds it does not prove again how each part is dropped.
@@ -55,125 +53,93 @@ impl Drop for BatchedTable {
     fn drop(self) {
         let BatchedTable {
             table: _,
-            waiting: _,
+            window: _,
         } = self;
-    }
-}
-
-// ---- what waits
-
-/// A write of copies.
-fn write_by(key: &Key, body: Option<&str>) -> Result<Write, Fault>
-    ensures { IfOk result (λ w. write_of w ≡ (key_of key.now, option_map (λ b. b.now) body.entry)) }
-{
-    Ok(Write {
-        key: copy_of_key(key)?,
-        body: copy_of_body(*key.namespace.allocator(), body)?,
-    })
-}
-
-/// Puts a write behind what waits.
-fn push(waiting: &mut Option<Waiting>, write: Write, bytes: usize) -> Result<(), Fault>
-    ensures ok { OnOk result (writes_in waiting.new ≡ writes_in waiting.old ++ write_of write ∷ []) }
-    ensures err { OnErr result (writes_in waiting.new ≡ writes_in waiting.old) }
-{
-    match waiting {
-        Some(all) => {
-            all.writes.push(write)?;
-            all.bytes = all.bytes.saturating_add(bytes);
-        }
-        None => {
-            let mut writes = Vec::new(*write.key.namespace.allocator());
-            writes.push(write)?;
-            *waiting = Some(Waiting { writes, bytes });
-        }
-    }
-    Ok(())
-}
-
-/// Whether no more may wait.
-fn is_full(waiting: &Option<Waiting>) -> bool {
-    match waiting {
-        Some(all) => all.writes.len() >= MOST_WAITING || all.bytes >= MOST_BYTES,
-        None => false,
-    }
-}
-
-/// How many writes wait.
-fn count(waiting: &Option<Waiting>) -> u64
-    ensures { result ≡ length (writes_in waiting.now) }
-{
-    match waiting {
-        Some(all) => all.writes.len() as u64,
-        None => 0,
-    }
-}
-
-/// Whether one of these writes is of this key.
-fn has_key(writes: &[Write], key: &Key) -> bool
-    ensures { result ≡ list_any (λ w. is_key (key_of key.now) (write_of w).0) writes.now }
-{
-    writes.iter().any(|write| is_same_key(key, &write.key))
-}
-
-/// Whether a write of this key waits.
-fn is_waiting(waiting: &Option<Waiting>, key: &Key) -> bool
-    ensures { result ≡ list_any (λ w. is_key (key_of key.now) w.0) (writes_in waiting.now) }
-{
-    match waiting {
-        Some(all) => has_key(all.writes.as_slice(), key),
-        None => false,
     }
 }
 
 // ---- where it is written
 
-/// Writes all that waits: all of it, or none.
-fn flush(table: &mut Table, waiting: &mut Option<Waiting>) -> Result<(), Fault>
-    requires { CanFollow table.old (writes_in waiting.old) }
-    ensures all { OnOk result (table.new ≡ written_all table.old (writes_in waiting.old)) }
-    ensures none_left { OnOk result (writes_in waiting.new ≡ []) }
+/// Writes the changes that wait: all of them, or none.
+fn write_waiting(table: &mut Table, all: &ChangeWindow) -> Result<(), Fault>
+    requires { CanFollow table.old (waiting_of all.now) }
+    ensures ok { OnOk result (table.new ≡ written_all table.old (waiting_of all.now)) }
     ensures err { OnErr result (table.new ≡ table.old) }
-    ensures waits { OnErr result (writes_in waiting.new ≡ writes_in waiting.old) }
 {
-    if let Some(all) = waiting {
-        table.put_all(all.writes.as_slice())?;
-        *waiting = None;
+    let writes = waiting_writes(all)?;
+    if writes.is_empty() {
+        return Ok(());
+    }
+    table.put_all(writes.as_slice())
+}
+
+/// Writes all that waits: all of it, or none.
+fn flush(table: &mut Table, window: &mut Option<ChangeWindow>) -> Result<(), Fault>
+    requires { CanFollow table.old (waiting_in window.old) }
+    ensures all { OnOk result (table.new ≡ written_all table.old (waiting_in window.old)) }
+    ensures none_left { OnOk result (waiting_in window.new ≡ []) }
+    ensures err { OnErr result (table.new ≡ table.old) }
+    ensures waits { OnErr result (waiting_in window.new ≡ waiting_in window.old) }
+    ensures latest { (h : History) → IfSome window.old (AreLatest h) → IfSome window.new (AreLatest h) }
+{
+    if let Some(all) = window {
+        write_waiting(table, all)?;
+        all.settle();
     }
     Ok(())
 }
 
 /// Where no more may wait, writes all that does.
-fn flush_if_full(table: &mut Table, waiting: &mut Option<Waiting>) -> Result<(), Fault>
-    requires fit { CanFollow table.old (writes_in waiting.old) }
+fn flush_if_full(table: &mut Table, window: &mut Option<ChangeWindow>) -> Result<(), Fault>
+    requires fit { CanFollow table.old (waiting_in window.old) }
     requires kept { IsPruned table.old }
     ensures pruned { IsPruned table.new }
-    ensures follow { CanFollow table.new (writes_in waiting.new) }
-    ensures same { written_all table.new (writes_in waiting.new) ≡ written_all table.old (writes_in waiting.old) }
+    ensures follow { CanFollow table.new (waiting_in window.new) }
+    ensures same { written_all table.new (waiting_in window.new) ≡ written_all table.old (waiting_in window.old) }
+    ensures latest { (h : History) → IfSome window.old (AreLatest h) → IfSome window.new (AreLatest h) }
 {
-    if is_full(waiting) {
-        flush(table, waiting)?;
+    if is_full(window) {
+        flush(table, window)?;
     }
     Ok(())
 }
 
-/// Where a write of this key waits, writes all that does.
+/// Where a change of this key waits, writes all that does.
 fn flush_if_waiting(
     table: &mut Table,
-    waiting: &mut Option<Waiting>,
+    window: &mut Option<ChangeWindow>,
     key: &Key,
 ) -> Result<(), Fault>
-    requires fit { CanFollow table.old (writes_in waiting.old) }
+    requires fit { CanFollow table.old (waiting_in window.old) }
     requires kept { IsPruned table.old }
     ensures pruned { IsPruned table.new }
-    ensures follow { CanFollow table.new (writes_in waiting.new) }
-    ensures same { written_all table.new (writes_in waiting.new) ≡ written_all table.old (writes_in waiting.old) }
-    ensures none { OnOk result (list_any (λ w. is_key (key_of key.now) w.0) (writes_in waiting.new) ≡ false) }
+    ensures follow { CanFollow table.new (waiting_in window.new) }
+    ensures same { written_all table.new (waiting_in window.new) ≡ written_all table.old (waiting_in window.old) }
+    ensures none { OnOk result (list_any (λ w. is_key (key_of key.now) w.0) (waiting_in window.new) ≡ false) }
+    ensures latest { (h : History) → IfSome window.old (AreLatest h) → IfSome window.new (AreLatest h) }
 {
-    if is_waiting(waiting, key) {
-        flush(table, waiting)?;
+    if is_waiting(window, key) {
+        flush(table, window)?;
     }
     Ok(())
+}
+
+/// What stood under a key of a table at a revision, to be shared.
+fn shared_at(table: &mut Table, key: &Key, revision: u64) -> Result<Option<SharedObject>, Fault>
+    ensures ok { IfOk result (λ o. option_map object_in o ≡ fin.get (state_at table.old.changes revision) (key_of key.now)) }
+    ensures same { table.new ≡ table.old }
+{
+    let object = table.latest_at(key, revision)?;
+    Ok(shared_object(object)?)
+}
+
+/// What stands under a key of a table, to be shared.
+fn shared_latest(table: &mut Table, key: &Key) -> Result<Option<SharedObject>, Fault>
+    ensures ok { IfOk result (λ o. option_map object_in o ≡ fin.get (current_objects table.old) (key_of key.now)) }
+    ensures same { table.new ≡ table.old }
+{
+    let object = table.latest(key)?;
+    Ok(shared_object(object)?)
 }
 
 impl BatchedTable {
@@ -184,7 +150,7 @@ impl BatchedTable {
         let _ = table.marks();
         BatchedTable {
             table,
-            waiting: None,
+            window: None,
         }
     }
 
@@ -196,22 +162,22 @@ impl BatchedTable {
     {
         let Marks { current, compacted } = self.table.marks();
         Marks {
-            current: current + count(&self.waiting),
+            current: current + count(&self.window),
             compacted,
         }
     }
 
     /// Adds the next change of a key: with a body what it now holds, without one its deletion. It waits.
-    pub(crate) fn put(&mut self, revision: u64, key: &Key, body: Option<&str>) -> Result<(), Fault>
-        requires next { revision ≡ suc self.old.current }
-        requires fits { revision ≤ last_revision }
-        requires there { body ≡ None → fin.contains_key (current_objects self.old) (key_of key.now) ≡ true }
-        ensures ok { OnOk result (self.new ≡ written self.old (key_of key.now) (option_map (λ b. b.now) body.entry)) }
+    pub(crate) fn put(&mut self, change: Latest) -> Result<(), Fault>
+        requires next { change.revision ≡ suc self.old.current }
+        requires fits { change.revision ≤ last_revision }
+        requires there { change.body ≡ None → fin.contains_key (current_objects self.old) (key_of change.key.value) ≡ true }
+        requires before { IsBeforeNext self.old change }
+        ensures ok { OnOk result (self.new ≡ written self.old (key_of change.key.value) (option_map rc_str_bytes change.body)) }
         ensures err { OnErr result (self.new ≡ self.old) }
     {
-        flush_if_full(&mut self.table, &mut self.waiting)?;
-        let write = write_by(key, body)?;
-        push(&mut self.waiting, write, bytes_of_texts(key, body))?;
+        flush_if_full(&mut self.table, &mut self.window)?;
+        push_change(&mut self.window, change)?;
         Ok(())
     }
 
@@ -222,27 +188,38 @@ impl BatchedTable {
         ensures ok { OnOk result (self.new ≡ written_all self.old (map write_of writes.now)) }
         ensures err { OnErr result (self.new ≡ self.old) }
     {
-        flush(&mut self.table, &mut self.waiting)?;
+        flush(&mut self.table, &mut self.window)?;
         self.table.put_all(writes)?;
+        self.window = None;
         Ok(())
     }
 
     /// What stands under a key: what stood there at the current revision.
-    pub(crate) fn latest(&mut self, key: &Key) -> Result<Option<Object>, Fault>
-        ensures ok { IfOk result (λ o. option_map object_of o ≡ fin.get (current_objects self.old) (key_of key.now)) }
+    pub(crate) fn latest(&mut self, key: &Key) -> Result<Option<SharedObject>, Fault>
+        ensures ok { IfOk result (λ o. option_map object_in o ≡ fin.get (current_objects self.old) (key_of key.now)) }
         ensures same { self.new ≡ self.old }
     {
-        flush_if_waiting(&mut self.table, &mut self.waiting, key)?;
-        self.table.latest(key)
+        flush_if_waiting(&mut self.table, &mut self.window, key)?;
+        shared_latest(&mut self.table, key)
     }
 
-    /// What stood under a key at a revision, which counts as the current one if it is past it.
-    pub(crate) fn latest_at(&mut self, key: &Key, revision: u64) -> Result<Option<Object>, Fault>
-        ensures ok { IfOk result (λ o. option_map object_of o ≡ fin.get (state_at self.old.changes revision) (key_of key.now)) }
+    /// What stood under a key just before a revision.
+    pub(crate) fn latest_before(
+        &mut self,
+        key: &Key,
+        revision: u64,
+    ) -> Result<Option<Object>, Fault>
+        ensures ok { IfOk result (λ o. option_map object_of o ≡ fin.get (state_at self.old.changes (revision - 1)) (key_of key.now)) }
         ensures same { self.new ≡ self.old }
     {
-        flush(&mut self.table, &mut self.waiting)?;
-        self.table.latest_at(key, revision)
+        if let Some(before) = known_before(&self.window, key, revision)? {
+            return Ok(before);
+        }
+        flush(&mut self.table, &mut self.window)?;
+        let before = shared_at(&mut self.table, key, revision.saturating_sub(1))?;
+        let copy = copy_of_object(*key.namespace.allocator(), &before)?;
+        remember_before(&mut self.window, key, revision, before);
+        Ok(copy)
     }
 
     /// The first `max` objects of a type at a revision, in the order of namespace and name: of one namespace or
@@ -261,7 +238,7 @@ impl BatchedTable {
             ≡ listed kind (option_map (λ b. b.now) namespace.entry) (option_map (λ p. (p.0.now, p.1.now)) after.entry) (state_at self.old.changes revision)) }
         ensures same { self.new ≡ self.old }
     {
-        flush(&mut self.table, &mut self.waiting)?;
+        flush(&mut self.table, &mut self.window)?;
         self.table.at(kind, namespace, revision, after, max)
     }
 
@@ -281,36 +258,41 @@ impl BatchedTable {
             ≡ kept_among (K.Keep.kept keep.now) (listed kind (option_map (λ b. b.now) namespace.entry) (option_map (λ p. (p.0.now, p.1.now)) after.entry) (state_at self.old.changes revision))) }
         ensures same { self.new ≡ self.old }
     {
-        flush(&mut self.table, &mut self.waiting)?;
+        flush(&mut self.table, &mut self.window)?;
         self.table
             .first_kept(kind, namespace, revision, after, max, keep)
     }
 
-    /// The first `max` changes of a type after one revision up to another, oldest first: of one namespace or of all.
-    pub(crate) fn span(
+    /// The first `max` changes of a type after a revision, oldest first: of one namespace or of all.
+    pub(crate) fn changes(
         &mut self,
         kind: u32,
         namespace: Option<&str>,
-        from: u64,
-        to: u64,
+        after: u64,
         max: u64,
     ) -> Result<Vec<Change>, Fault>
-        ensures ok { IfOk result (λ v. map change_of v.items ≡ changes_within kind (option_map (λ b. b.now) namespace.entry) max (up_to to (later from self.old.changes))) }
-        ensures whole { last_revision ≤ max → IfOk result (λ v. map change_of v.items ≡ picked kind (option_map (λ b. b.now) namespace.entry) (up_to to (later from self.old.changes))) }
+        ensures ok { IfOk result (λ v. map change_of v.items ≡ changes_within kind (option_map (λ b. b.now) namespace.entry) max (later after self.old.changes)) }
         ensures same { self.new ≡ self.old }
     {
-        flush(&mut self.table, &mut self.waiting)?;
-        self.table.span(kind, namespace, from, to, max)
+        if let Some(changes) = known_changes(&self.window, kind, namespace, after, max)? {
+            return Ok(changes);
+        }
+        flush(&mut self.table, &mut self.window)?;
+        let to = self.table.marks().current;
+        self.table.span(kind, namespace, after, to, max)
     }
 
-    /// Forgets all but the kept changes at a revision. One below the compacted number counts as that number, and one above the
-    /// current revision as that revision.
+    /// Forgets all but the kept changes at a revision from the compacted number to the current one.
     pub(crate) fn prune(&mut self, revision: u64) -> Result<(), Fault>
-        ensures ok { OnOk result (self.new ≡ pruned (between_marks self.old revision) self.old) }
+        requires low { self.old.compacted ≤ revision }
+        requires high { revision ≤ self.old.current }
+        ensures ok { OnOk result (self.new ≡ pruned revision self.old) }
         ensures err { OnErr result (self.new ≡ self.old) }
     {
-        flush(&mut self.table, &mut self.waiting)?;
+        flush(&mut self.table, &mut self.window)?;
         self.table.prune(revision)?;
+        let window = mem::replace(&mut self.window, None);
+        self.window = once_compacted(window, revision);
         Ok(())
     }
 }

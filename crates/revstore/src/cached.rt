@@ -1,17 +1,22 @@
 //! What is held of the objects that stand: those that were written or read last, in a table of a fixed size, in which many
-//! keys share a slot. A slot holds what stands under one of them at most.
+//! keys share a slot. A slot holds what stands under one of them at most, and shares its key and its text with the latest changes.
 
 ghost use Rattle.std.specs.Prelude.{◌≡◌, ℕ, suc, IfOk, IfSome, List, Option, option_map};
 ghost use Rattle.std.specs.FinMap as fin;
-ghost use Rattle.history.specs.History.{History, IsRising, object_by, current_objects, written};
+ghost use Rattle.std.specs.Rc.{rc_str_bytes};
+ghost use Rattle.history.specs.History.{History, IsRising, left_by, object_by, current_objects, written};
 ghost use Rattle.history.specs.Read.{key_of, object_of};
 ghost use Rattle.revstore.specs.CachedObject.{AreCached, AreIn, IsCurrent, slot_of, sum_of};
+ghost use Rattle.revstore.specs.ChangeWindow.{IsBeforeNext, change_in};
+ghost use Rattle.revstore.specs.Shared.{object_in};
 
-use crate::copies::{copy_of_key, copy_of_object, is_same_key};
+use crate::copies::{copy_of_object, is_same_key};
+use crate::shared::{SharedObject, same_object, shared_key, shared_text};
+use crate::window::Latest;
 use history::{Key, Object};
 use revtable::Fault;
 use std::alloc::{AllocError, Global};
-use std::mem;
+use std::rc::{Rc, RcStr};
 
 /// How many slots there are.
 const SLOTS: usize = 64;
@@ -22,8 +27,8 @@ const MOST_CACHED: usize = 16384;
 /// What stands under a key, or that nothing does.
 #[derive(Drop)]
 pub(crate) struct CachedObject {
-    pub(crate) key: Key,
-    pub(crate) object: Option<Object>,
+    pub(crate) key: Rc<Key>,
+    pub(crate) object: Option<SharedObject>,
 }
 
 /// All slots.
@@ -63,79 +68,17 @@ fn empty_slots(alloc: Global) -> Result<Vec<Option<CachedObject>>, AllocError>
 }
 
 /// What a slot holds of a key.
-fn cached_in(
-    slots: &[Option<CachedObject>],
-    key: &Key,
-) -> Result<Option<Option<Object>>, AllocError>
-    ensures { (h : History) → AreCached h slots.now
-        → IfOk result (λ known. IfSome known (λ o. option_map object_of o ≡ fin.get (current_objects h) (key_of key.now))) }
+fn cached_in<'a>(slots: &'a [Option<CachedObject>], key: &Key) -> Option<&'a CachedObject>
+    ensures key { IfSome result (λ cached. key_of cached.now.key.value ≡ key_of key.now) }
+    ensures current { (h : History) → AreCached h slots.now → IfSome result (λ cached. IsCurrent h cached.now) }
 {
     let Some(slot) = slots.get(slot_of(key)) else {
-        return Ok(None);
+        return None;
     };
     match slot {
         Some(cached) => {
             if is_same_key(&cached.key, key) {
-                Ok(Some(copy_of_object(&cached.object)?))
-            } else {
-                Ok(None)
-            }
-        }
-        None => Ok(None),
-    }
-}
-
-/// What is to be held of a key, if its text is not too long and there is memory for it.
-fn copy_of(key: &Key, object: &Option<Object>) -> Option<CachedObject>
-    ensures { IfSome result (λ cached. (key_of cached.key ≡ key_of key.now) × (option_map object_of cached.object ≡ option_map object_of object.now)) }
-{
-    if let Some(object) = object {
-        if object.body.len() > MOST_CACHED {
-            return None;
-        }
-    }
-    let Ok(key) = copy_of_key(key) else {
-        return None;
-    };
-    let Ok(object) = copy_of_object(object) else {
-        return None;
-    };
-    Some(CachedObject { key, object })
-}
-
-/// What is to be held of a key once a write of this revision is made.
-fn cached_by(key: &Key, revision: u64, body: Option<&str>) -> Option<CachedObject>
-    ensures { IfSome result (λ cached. (key_of cached.key ≡ key_of key.now) × (option_map object_of cached.object ≡ object_by revision (option_map (λ b. b.now) body.entry))) }
-{
-    let Ok(copy) = copy_of_key(key) else {
-        return None;
-    };
-    let Some(body) = body else {
-        return Some(CachedObject {
-            key: copy,
-            object: None,
-        });
-    };
-    if body.len() > MOST_CACHED {
-        return None;
-    }
-    let Ok(body) = String::from_str(*key.namespace.allocator(), body) else {
-        return None;
-    };
-    Some(CachedObject {
-        key: copy,
-        object: Some(Object { revision, body }),
-    })
-}
-
-/// What stood under this key, if that is what was held.
-fn object_of_key(cached: Option<CachedObject>, key: &Key) -> Option<Option<Object>>
-    ensures { (h : History) → IfSome cached (IsCurrent h) → IfSome result (λ o. option_map object_of o ≡ fin.get (current_objects h) (key_of key.now)) }
-{
-    match cached {
-        Some(cached) => {
-            if is_same_key(&cached.key, key) {
-                Some(cached.object)
+                Some(cached)
             } else {
                 None
             }
@@ -144,29 +87,52 @@ fn object_of_key(cached: Option<CachedObject>, key: &Key) -> Option<Option<Objec
     }
 }
 
-/// Puts this in the slot of a key, and answers what the slot held of that key, if it did.
-fn put_in(
-    slots: &mut [Option<CachedObject>],
-    key: &Key,
-    cached: Option<CachedObject>,
-) -> Option<Option<Object>>
-    ensures before { (h : History) → AreCached h slots.old → IfSome result (λ o. option_map object_of o ≡ fin.get (current_objects h) (key_of key.now)) }
-    ensures same { (h : History) → AreCached h slots.old → IfSome cached (λ x. (key_of x.key ≡ key_of key.now) × IsCurrent h x) → AreCached h slots.new }
-    ensures next { (h : History) (body : Option (List ℕ)) → IsRising 0 h.changes h.current → AreCached h slots.old
-        → IfSome cached (λ x. (key_of x.key ≡ key_of key.now) × (option_map object_of x.object ≡ object_by (suc h.current) body))
-        → AreCached (written h (key_of key.now) body) slots.new }
-{
-    let at = slot_of(key);
-    if slots.len() <= at {
-        return None;
+/// Whether the text of an object is too long to be held.
+fn is_long(object: &Option<SharedObject>) -> bool {
+    match object {
+        Some(object) => object.body.len() > MOST_CACHED,
+        None => false,
     }
-    let old = mem::replace(&mut slots[at], cached);
-    object_of_key(old, key)
+}
+
+/// What is to be held, if its text is not too long.
+fn short(cached: CachedObject) -> Option<CachedObject>
+    ensures { IfSome result (λ x. x ≡ cached) }
+{
+    if is_long(&cached.object) {
+        None
+    } else {
+        Some(cached)
+    }
+}
+
+/// Puts this in the slot of its key, if its text is not too long; else nothing.
+fn put_in(slots: &mut [Option<CachedObject>], cached: CachedObject)
+    ensures same { (h : History) → AreCached h slots.old → IsCurrent h cached → AreCached h slots.new }
+    ensures next { (h : History) (body : Option (List ℕ)) → IsRising 0 h.changes h.current → AreCached h slots.old → option_map object_in cached.object ≡ object_by (suc h.current) body
+        → AreCached (written h (key_of cached.key.value) body) slots.new }
+{
+    let at = slot_of(&cached.key);
+    if slots.len() <= at {
+        return;
+    }
+    slots[at] = short(cached);
 }
 
 // ---- of a store, which has slots or none
 
 /// What is held of a key.
+fn cached_of<'a>(slots: &'a Option<ObjectCache>, key: &Key) -> Option<&'a CachedObject>
+    ensures key { IfSome result (λ cached. key_of cached.now.key.value ≡ key_of key.now) }
+    ensures current { (h : History) → IfSome slots.now (AreIn h) → IfSome result (λ cached. IsCurrent h cached.now) }
+{
+    match slots {
+        Some(slots) => cached_in(&slots.all, key),
+        None => None,
+    }
+}
+
+/// What stands under a key, where that is held.
 pub(crate) fn known_now(
     slots: &Option<ObjectCache>,
     key: &Key,
@@ -174,19 +140,72 @@ pub(crate) fn known_now(
     ensures { (h : History) → IfSome slots.now (AreIn h)
         → IfOk result (λ known. IfSome known (λ o. option_map object_of o ≡ fin.get (current_objects h) (key_of key.now))) }
 {
-    match slots {
-        Some(slots) => Ok(cached_in(&slots.all, key)?),
+    match cached_of(slots, key) {
+        Some(cached) => {
+            let copy = copy_of_object(*key.namespace.allocator(), &cached.object)?;
+            Ok(Some(copy))
+        }
         None => Ok(None),
     }
+}
+
+/// The change that a write of this revision makes where this stands.
+fn change_after(
+    cached: &CachedObject,
+    revision: u64,
+    body: Option<RcStr>,
+) -> Result<Latest, AllocError>
+    ensures change { IfOk result (λ l. change_in l ≡ record { revision = revision; key = key_of cached.now.key.value; body = option_map rc_str_bytes body }) }
+    ensures before { (h : History) → IsCurrent h cached.now → IfOk result (IsBeforeNext h) }
+{
+    Ok(Latest {
+        revision,
+        key: cached.key.clone()?,
+        body,
+        before: Some(same_object(&cached.object)?),
+    })
+}
+
+/// The change that a write of this revision makes, with what stood under its key, where that is held.
+pub(crate) fn next_change(
+    slots: &Option<ObjectCache>,
+    revision: u64,
+    key: &Key,
+    body: Option<&str>,
+) -> Result<Latest, Fault>
+    ensures change { IfOk result (λ l. change_in l ≡ record { revision = revision; key = key_of key.now; body = option_map (λ b. b.now) body.entry }) }
+    ensures before { (h : History) → IfSome slots.now (AreIn h) → IfOk result (IsBeforeNext h) }
+{
+    let body = shared_text(*key.namespace.allocator(), body)?;
+    match cached_of(slots, key) {
+        Some(cached) => Ok(change_after(cached, revision, body)?),
+        None => Ok(Latest {
+            revision,
+            key: shared_key(key)?,
+            body,
+            before: None,
+        }),
+    }
+}
+
+/// What a change leaves under its key.
+pub(crate) fn cached_by(change: &Latest) -> Result<CachedObject, Fault>
+    ensures key { IfOk result (λ cached. key_of cached.key.value ≡ key_of change.now.key.value) }
+    ensures object { IfOk result (λ cached. option_map object_in cached.object ≡ left_by (change_in change.now)) }
+{
+    Ok(CachedObject {
+        key: change.key.clone()?,
+        object: change.left()?,
+    })
 }
 
 /// The slots once what stands under a key is put in its slot. There are none, where there is no memory for them.
 pub(crate) fn with_read(
     slots: Option<ObjectCache>,
     key: &Key,
-    object: &Option<Object>,
+    object: Option<SharedObject>,
 ) -> Option<ObjectCache>
-    ensures { (h : History) → IfSome slots (AreIn h) → option_map object_of object.now ≡ fin.get (current_objects h) (key_of key.now) → IfSome result (AreIn h) }
+    ensures { (h : History) → IfSome slots (AreIn h) → option_map object_in object ≡ fin.get (current_objects h) (key_of key.now) → IfSome result (AreIn h) }
 {
     let mut all = match slots {
         Some(slots) => slots.all,
@@ -197,27 +216,19 @@ pub(crate) fn with_read(
             all
         }
     };
-    let cached = copy_of(key, object);
-    let _ = put_in(&mut all, key, cached);
+    let Ok(key) = shared_key(key) else {
+        return None;
+    };
+    put_in(&mut all, CachedObject { key, object });
     Some(ObjectCache { all })
 }
 
-/// Puts what a write of the next revision leaves in the slot of its key, and answers what stood there, if that was held.
-pub(crate) fn write_over(
-    slots: &mut Option<ObjectCache>,
-    key: &Key,
-    revision: u64,
-    body: Option<&str>,
-) -> Option<Option<Object>>
-    ensures before { (h : History) → IfSome slots.old (AreIn h) → IfSome result (λ o. option_map object_of o ≡ fin.get (current_objects h) (key_of key.now)) }
-    ensures next { (h : History) → IsRising 0 h.changes h.current → revision ≡ suc h.current → IfSome slots.old (AreIn h)
-        → IfSome slots.new (AreIn (written h (key_of key.now) (option_map (λ b. b.now) body.entry))) }
+/// Puts what a write of the next revision leaves in the slot of its key.
+pub(crate) fn put_written(slots: &mut Option<ObjectCache>, left: CachedObject)
+    ensures { (h : History) (body : Option (List ℕ)) → IsRising 0 h.changes h.current → IfSome slots.old (AreIn h) → option_map object_in left.object ≡ object_by (suc h.current) body
+        → IfSome slots.new (AreIn (written h (key_of left.key.value) body)) }
 {
-    match slots {
-        Some(slots) => {
-            let cached = cached_by(key, revision, body);
-            put_in(&mut slots.all, key, cached)
-        }
-        None => None,
+    if let Some(slots) = slots {
+        put_in(&mut slots.all, left);
     }
 }

@@ -1,11 +1,15 @@
 //! Copies of keys, changes and objects, each of which may find no memory; and whether keys are the same, and how long texts are.
 
 ghost use Rattle.std.specs.Prelude.{◌≡◌, IfOk, IsTrue, option_map, string_bytes};
-ghost use Rattle.history.specs.Read.{change_of, key_of, object_of};
+ghost use Rattle.std.specs.Rc.{rc_str_bytes};
+ghost use Rattle.history.specs.Read.{key_of, object_of};
+ghost use Rattle.revstore.specs.Shared.{object_in};
 ghost use Rattle.revstore.specs.Waiting.{is_key};
 
-use history::{Change, Key, Object};
+use crate::shared::SharedObject;
+use history::{Key, Object};
 use std::alloc::{AllocError, Global};
+use std::rc::RcStr;
 
 /// A copy of a key.
 pub(crate) fn copy_of_key(key: &Key) -> Result<Key, AllocError>
@@ -18,44 +22,30 @@ pub(crate) fn copy_of_key(key: &Key) -> Result<Key, AllocError>
     })
 }
 
-/// A copy of what a write gives a key, or of nothing.
-pub(crate) fn copy_of_body(alloc: Global, body: Option<&str>) -> Result<Option<String>, AllocError>
-    ensures { IfOk result (λ t. option_map string_bytes t ≡ option_map (λ b. b.now) body.entry) }
-{
-    match body {
-        Some(body) => Ok(Some(String::from_str(alloc, body)?)),
-        None => Ok(None),
-    }
-}
-
-fn copy_of_text(text: &Option<String>) -> Result<Option<String>, AllocError>
-    ensures { IfOk result (λ t. option_map string_bytes t ≡ option_map string_bytes text.now) }
+/// A copy of the text of a change, or of none.
+pub(crate) fn copy_of_text(
+    alloc: Global,
+    text: &Option<RcStr>,
+) -> Result<Option<String>, AllocError>
+    ensures { IfOk result (λ t. option_map string_bytes t ≡ option_map rc_str_bytes text.now) }
 {
     match text {
-        Some(text) => Ok(Some(text.clone()?)),
+        Some(text) => Ok(Some(String::from_str(alloc, text.as_str())?)),
         None => Ok(None),
     }
-}
-
-/// A copy of a change.
-pub(crate) fn copy_of_change(change: &Change) -> Result<Change, AllocError>
-    ensures { IfOk result (λ c. change_of c ≡ change_of change.now) }
-{
-    Ok(Change {
-        revision: change.revision,
-        key: copy_of_key(&change.key)?,
-        body: copy_of_text(&change.body)?,
-    })
 }
 
 /// A copy of what stands under a key, or of nothing.
-pub(crate) fn copy_of_object(object: &Option<Object>) -> Result<Option<Object>, AllocError>
-    ensures { IfOk result (λ o. option_map object_of o ≡ option_map object_of object.now) }
+pub(crate) fn copy_of_object(
+    alloc: Global,
+    object: &Option<SharedObject>,
+) -> Result<Option<Object>, AllocError>
+    ensures { IfOk result (λ o. option_map object_of o ≡ option_map object_in object.now) }
 {
     match object {
         Some(object) => Ok(Some(Object {
             revision: object.revision,
-            body: object.body.clone()?,
+            body: String::from_str(alloc, object.body.as_str())?,
         })),
         None => Ok(None),
     }
@@ -71,11 +61,7 @@ pub(crate) fn is_same_key(key: &Key, other: &Key) -> bool
         && key.name.as_str() == other.name.as_str()
 }
 
-/// How many bytes the texts of a write have.
-pub(crate) fn bytes_of_texts(key: &Key, body: Option<&str>) -> usize {
-    let names = key.namespace.len().saturating_add(key.name.len());
-    match body {
-        Some(body) => names.saturating_add(body.len()),
-        None => names,
-    }
+/// How many bytes the texts of a key have.
+pub(crate) fn bytes_of_key(key: &Key) -> usize {
+    key.namespace.len().saturating_add(key.name.len())
 }

@@ -10,11 +10,9 @@ ghost use Rattle.history.specs.Whole.{AreThere};
 ghost use Rattle.history.specs.Writes.{changes_by, written_all_in};
 
 use crate::batched::BatchedTable;
-use crate::cached::{ObjectCache, known_now, with_read, write_over};
+use crate::cached::{ObjectCache, cached_by, known_now, next_change, put_written, with_read};
+use crate::copies::copy_of_object;
 use crate::fault::{ChangesFault, CompactFault, ListFault, WriteFault};
-use crate::window::{
-    ChangeWindow, known_before, known_changes, once_compacted, remember_before, with_change,
-};
 use history::{Change, Entry, Key, LAST_REVISION, Object, Write};
 use revtable::{Fault, Keep, Table};
 use std::marker::Model;
@@ -23,8 +21,6 @@ use std::mem;
 /// The objects of all types, by key, and their changes.
 pub struct Store {
     table: BatchedTable,
-    /// The latest changes, where they are cached.
-    window: Option<ChangeWindow>,
     /// What stands under the keys that were written or read last, where it is held.
     cached: Option<ObjectCache>,
 }
@@ -33,7 +29,6 @@ impl Model for Store {
     ghost use Rattle.std.specs.Prelude.{IfSome};
     ghost use Rattle.history.specs.Kept.{IsPruned};
     ghost use Rattle.revstore.specs.CachedObject.{AreIn};
-    ghost use Rattle.revstore.specs.ChangeWindow.{AreLatest};
     ghost use Rattle.history.specs.Codes.{view_code};
     ghost use Rattle.history.specs.View.{View, view as view_of};
 
@@ -43,7 +38,7 @@ impl Model for Store {
 
     ghost view = { λ s. view_of s.table };
 
-    ghost invariant = { λ s. IsPruned s.table × IfSome s.window (AreLatest s.table) × IfSome s.cached (AreIn s.table) };
+    ghost invariant = { λ s. IsPruned s.table × IfSome s.cached (AreIn s.table) };
 }
 
 // It is written out, so that what holds a store does not prove again how each part is dropped.
@@ -51,7 +46,6 @@ impl Drop for Store {
     fn drop(self) {
         let Store {
             table: _,
-            window: _,
             cached: _,
         } = self;
     }
@@ -64,7 +58,6 @@ impl Store {
     {
         Store {
             table: BatchedTable::new(table),
-            window: None,
             cached: None,
         }
     }
@@ -97,10 +90,10 @@ impl Store {
             return Err(WriteFault::Exhausted);
         }
         let revision = current + 1;
-        self.table.put(revision, key, body)?;
-        let before = write_over(&mut self.cached, key, revision, body);
-        let window = mem::replace(&mut self.window, None);
-        self.window = with_change(window, revision, key, body, before);
+        let change = next_change(&self.cached, revision, key, body)?;
+        let left = cached_by(&change)?;
+        self.table.put(change)?;
+        put_written(&mut self.cached, left);
         Ok(revision)
     }
 
@@ -118,7 +111,6 @@ impl Store {
             return Err(WriteFault::Exhausted);
         }
         self.table.put_all(writes)?;
-        self.window = None;
         self.cached = None;
         Ok(current + count)
     }
@@ -132,9 +124,10 @@ impl Store {
             return Ok(object);
         }
         let object = self.table.latest(key)?;
+        let copy = copy_of_object(*key.namespace.allocator(), &object)?;
         let cached = mem::replace(&mut self.cached, None);
-        self.cached = with_read(cached, key, &object);
-        Ok(object)
+        self.cached = with_read(cached, key, object);
+        Ok(copy)
     }
 
     /// The first `max` objects of a type at a revision, in the order of namespace and name: of one namespace or
@@ -213,10 +206,7 @@ impl Store {
         if after < marks.compacted {
             return Err(ChangesFault::Expired);
         }
-        if let Some(changes) = known_changes(&self.window, kind, namespace, after, max)? {
-            return Ok(changes);
-        }
-        Ok(self.table.span(kind, namespace, after, marks.current, max)?)
+        Ok(self.table.changes(kind, namespace, after, max)?)
     }
 
     /// What stood under a key just before a revision.
@@ -226,12 +216,7 @@ impl Store {
         ensures ok { IfOk result (λ o. option_map object_of o ≡ fin.get (state_in self.old (revision - 1)) (key_of key.now)) }
         ensures same { self.new ≡ self.old }
     {
-        if let Some(before) = known_before(&self.window, key, revision)? {
-            return Ok(before);
-        }
-        let before = self.table.latest_at(key, revision - 1)?;
-        remember_before(&mut self.window, key, revision, &before);
-        Ok(before)
+        self.table.latest_before(key, revision)
     }
 
     /// Forgets what no answer from this revision on can show.
@@ -249,8 +234,6 @@ impl Store {
             return Err(CompactFault::TooLarge);
         }
         self.table.prune(revision)?;
-        let window = mem::replace(&mut self.window, None);
-        self.window = once_compacted(window, revision);
         Ok(())
     }
 }

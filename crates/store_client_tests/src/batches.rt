@@ -7,14 +7,32 @@ use history::{Change, Entry, Object};
 use std::alloc::{AllocError, Global};
 use std::test::Fail;
 
-/// How often changes are drawn, and then looks.
-const ROUNDS: u64 = 12;
+/// What is drawn: how often changes and then looks, fewer changes than so many at a time, and so many looks.
+#[derive(Clone, Copy)]
+struct Size {
+    rounds: u64,
+    changes: u64,
+    looks: u64,
+}
 
-/// Fewer changes than this are drawn before a look.
-const CHANGES: u64 = 160;
+/// More changes between two looks than may wait, and more than are kept in front of the table.
+const MANY_CHANGES: Size = Size {
+    rounds: 12,
+    changes: 160,
+    looks: 4,
+};
 
-/// So many looks follow.
-const LOOKS_OF_ROUND: u64 = 4;
+/// Looks after few changes each, so that some are asked where changes wait.
+const MANY_LOOKS: Size = Size {
+    rounds: 40,
+    changes: 9,
+    looks: 5,
+};
+
+/// The numbers that scripts with many looks are drawn from. A longer run has more of them: 300 have 100,000 events.
+const FIRST: u64 = 1;
+
+const LAST: u64 = 6;
 
 /// What they are drawn from: what follows a look meets what it left, so some are also changes of several.
 const LOOKS: &str = "list kept changes before get list kept changes before get both compact";
@@ -291,23 +309,23 @@ fn push_look(alloc: Global, rows: &mut String, drawn: &mut Drawn) -> Result<(), 
     rows.push_str(format!(in alloc; "{asked} => {answer}\n")?.as_str())
 }
 
-/// The rows of all rounds.
-fn rows(alloc: Global) -> Result<String, AllocError> {
+/// The rows of all rounds, drawn from this number.
+fn rows(alloc: Global, from: u64, size: Size) -> Result<String, AllocError> {
     let mut drawn = Drawn {
         changes: Vec::new(alloc),
         current: 1,
         compacted: 1,
-        last: 27,
+        last: from,
     };
     let mut rows = String::from_str(alloc, "store 1 drawn_changes_and_looks\n")?;
-    for round in 0..ROUNDS {
-        let count = drawn.below(CHANGES);
+    for round in 0..size.rounds {
+        let count = drawn.below(size.changes);
         for _ in 0..count {
             push_change(alloc, &mut rows, &mut drawn, round)?;
         }
         let (current, compacted) = (drawn.current, drawn.compacted);
         rows.push_str(format!(in alloc; "numbers => ({current}, {compacted})\n")?.as_str())?;
-        for _ in 0..LOOKS_OF_ROUND {
+        for _ in 0..size.looks {
             push_look(alloc, &mut rows, &mut drawn)?;
         }
     }
@@ -316,6 +334,15 @@ fn rows(alloc: Global) -> Result<String, AllocError> {
 
 #[test]
 fn drawn_changes_and_looks(rt: HostRuntime) -> Result<(), Fail> {
-    let rows = rows(rt.alloc())?;
+    let rows = rows(rt.alloc(), 27, MANY_CHANGES)?;
     play_on_store(rt.alloc(), 1, rows.as_str())
+}
+
+#[test]
+fn drawn_looks_where_changes_wait(rt: HostRuntime) -> Result<(), Fail> {
+    for from in FIRST..=LAST {
+        let rows = rows(rt.alloc(), from, MANY_LOOKS)?;
+        play_on_store(rt.alloc(), 1, rows.as_str())?;
+    }
+    Ok(())
 }

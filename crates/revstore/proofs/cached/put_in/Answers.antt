@@ -1,26 +1,22 @@
-use Rattle.std.proofs.Common.{◌≡◌, IfSome, set, subst, sym}
-use Rattle.history.specs.History.{written}
+use Rattle.std.proofs.Common.{◌≡◌, suc, ap, option_map, subst, sym, ◌∙◌}
+use Rattle.history.specs.History.{object_by}
 use Rattle.history.specs.Read.{key_of}
-use Rattle.revstore.specs.CachedObject.{AreCached, IsCurrent, slot_of}
+use Rattle.revstore.specs.CachedObject.{IsCurrent, slot_of}
+use Rattle.revstore.specs.Shared.{object_in}
 use Rattle.revstore.proofs.ObjectCache.{if_some, none_written, put_read, put_written}
 use Rattle.revstore.proofs.cached.put_in.Goals as goal
 
 pub returns-then-slots-at-clause-next : goal.returns-then-slots-at-clause-next
-returns-then-slots-at-clause-next c = λ h body rise cached it. none_written h _ body c.args.slots.now c.slot_of-at.result rise c.slot_of-at.ensures c.if-slots-at.true cached
-
-pub returns-clause-before : goal.returns-clause-before
-returns-clause-before c = λ h cached.
-    let at = c.slot_of-at.result in
-    c.object_of_key.ensures h
-    (subst (λ o. IfSome o (IsCurrent h)) (sym c.replace-old.ensures.value)
-    (if_some (λ x. (slot_of (key_of x.key) ≡ at) × IsCurrent h x) (IsCurrent h) _ (λ x both. both.1) (cached at c.index-slots-at.result c.if-slots-at.false)))
+returns-then-slots-at-clause-next c = λ h body rise cached it. none_written h _ body c.args.slots.now c.slot_of-at.result rise (c.slot_of-at.ensures ∙ ap (λ k. slot_of (key_of k)) c.deref.ensures) c.if-slots-at.true cached
 
 pub returns-clause-same : goal.returns-clause-same
-returns-clause-same c = λ h cached it.
-    subst (λ o. AreCached h (set c.args.slots.now c.slot_of-at.result o)) (sym c.replace-old.ensures.after)
-    (put_read h (key_of c.args.key.now) c.args.slots.now c.slot_of-at.result c.args.cached c.slot_of-at.ensures cached it)
+returns-clause-same c = λ h cached is.
+    put_read h (key_of c.args.cached.key.value) c.args.slots.now c.slot_of-at.result c.short.result (c.slot_of-at.ensures ∙ ap (λ k. slot_of (key_of k)) c.deref.ensures) cached
+    (if_some (λ x. x ≡ c.args.cached) (λ x. (key_of x.key.value ≡ key_of c.args.cached.key.value) × IsCurrent h x) c.short.result
+    (λ x same. (ap (λ y. key_of y.key.value) same, subst (IsCurrent h) (sym same) is)) c.short.ensures)
 
 pub returns-clause-next : goal.returns-clause-next
-returns-clause-next c = λ h body rise cached it.
-    subst (λ o. AreCached (written h (key_of c.args.key.now) body) (set c.args.slots.now c.slot_of-at.result o)) (sym c.replace-old.ensures.after)
-    (put_written h (key_of c.args.key.now) body c.args.slots.now c.slot_of-at.result c.args.cached rise c.slot_of-at.ensures cached it)
+returns-clause-next c = λ h body rise cached is.
+    put_written h (key_of c.args.cached.key.value) body c.args.slots.now c.slot_of-at.result c.short.result rise (c.slot_of-at.ensures ∙ ap (λ k. slot_of (key_of k)) c.deref.ensures) cached
+    (if_some (λ x. x ≡ c.args.cached) (λ x. (key_of x.key.value ≡ key_of c.args.cached.key.value) × (option_map object_in x.object ≡ object_by (suc h.current) body)) c.short.result
+    (λ x same. (ap (λ y. key_of y.key.value) same, ap (λ y. option_map object_in y.object) same ∙ is)) c.short.ensures)

@@ -1,10 +1,15 @@
 use Rattle.std.proofs.Common.{◌∙◌}
 use Rattle.history.proofs.Writes.{kept_all}
-use Rattle.revstore.specs.Waiting.{writes_in}
-use Rattle.revstore.proofs.Behind.{settled}
+use Rattle.revstore.specs.Waiting.{waiting_in}
+use Rattle.revstore.proofs.Behind.{settled, still_waits}
 use Rattle.revstore.proofs.batched.BatchedTable.at.Goals as goal
+
+pub invariant_of-self : goal.invariant_of-self
+invariant_of-self c =
+    still_waits c.self.inside.table c.flush.new.table c.self.inside.window c.flush.new.window c.in_err-flush.ensures.err c.in_err-flush.ensures.waits
+    c.self.invariant.0 c.self.invariant.1 (c.flush.ensures.latest _ c.self.invariant.2)
 
 pub invariant_of-self-2 : goal.invariant_of-self-2
 invariant_of-self-2 c =
-    settled _ c.at.new.self (writes_in c.flush.new.waiting) (c.at.ensures.same ∙ c.in_ok-flush.ensures.all)
-    (kept_all c.self.inside.table (writes_in c.self.inside.waiting) c.self.invariant.0 c.self.invariant.1.0) c.in_ok-flush.ensures.none_left
+    settled _ c.at.new.self c.flush.new.window (c.at.ensures.same ∙ c.in_ok-flush.ensures.all)
+    (kept_all c.self.inside.table (waiting_in c.self.inside.window) c.self.invariant.0 c.self.invariant.1.0) c.in_ok-flush.ensures.none_left (c.flush.ensures.latest _ c.self.invariant.2)

@@ -23,7 +23,7 @@ invariant_of-self-2 c =
     let ws = map write_of c.args.writes.now in
     let count : length ws ≡ length c.args.writes.now = length-map c.args.writes.now write_of in
     let fits : h.current + length ws ≤ last_revision = omega (arith, count, c.self.invariant.0.is.high, c.if-count-current.false, c.marks-current.ensures.current) in
-    (subst IsPruned (sym c.in_ok-put_all.ensures.ok) (kept_all h ws c.self.invariant.0 fits), tt, tt)
+    (subst IsPruned (sym c.in_ok-put_all.ensures.ok) (kept_all h ws c.self.invariant.0 fits), tt)
 
 pub returns-clause-ok : goal.returns-clause-ok
 returns-clause-ok c =

@@ -1,9 +1,0 @@
-use Rattle.history.specs.Read.{key_of, write_of}
-use Rattle.std.proofs.Common.{rules, tests}
-use Rattle.std.proofs.lemmas.Iterator.{YieldsList-from_slice}
-use Rattle.std.proofs.lemmas.Iterator.Search.{any_from_yields_List}
-use Rattle.revstore.specs.Waiting.{is_key}
-use Rattle.revstore.proofs.batched.has_key.Goals as goal
-
-pub returns : goal.returns
-returns c = any_from_yields_List (λ w. is_key (key_of c.args.key.now) (write_of w).0) _ _ c.any.result c.any.ensures.ran (YieldsList-from_slice c.args.writes.now cc) (λ x b q k. search (rules, tests))
