@@ -4,3 +4,4 @@ pub mod NextPages
 pub mod Reading
 pub mod Tokens
 pub mod Values
+mod Turns

@@ -6,3 +6,4 @@ pub mod Rows
 pub mod Views
 pub mod TokenLaws
 pub mod LabelCache
+pub mod Finding

@@ -8,7 +8,7 @@ ghost use Rattle.selector.specs.Views as selector;
 ghost use Rattle.lists.specs.Labels.{labels_of};
 ghost use Rattle.lists.specs.LabelCache.{AreRight, IsRight};
 
-use crate::labels::labels_of;
+use crate::labels::LabelReader;
 use revtable::Fault;
 use selector::Selector;
 use std::alloc::{AllocError, Global};
@@ -70,6 +70,7 @@ fn put_in(slots: &mut [Option<LabelledText>], at: usize, known: LabelledText)
 #[derive(Drop)]
 pub struct LabelCache {
     alloc: Global,
+    reader: LabelReader,
     slots: Vec<Option<LabelledText>>,
 }
 
@@ -91,6 +92,7 @@ impl LabelCache {
     pub fn new(alloc: Global) -> LabelCache {
         LabelCache {
             alloc,
+            reader: LabelReader::new(alloc),
             slots: Vec::new(alloc),
         }
     }
@@ -136,7 +138,7 @@ impl LabelCache {
         if let Some(labels) = known_in(&self.slots, at, text) {
             return Ok(selector.matches(labels));
         }
-        let labels = labels_of(self.alloc, text)?;
+        let labels = self.reader.labels_of(text)?;
         let is_selected = selector.matches(&labels);
         self.keep(at, text, labels);
         Ok(is_selected)

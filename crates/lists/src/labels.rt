@@ -1,20 +1,19 @@
-//! The labels that an object's text gives, and whether they are selected. Label selectors stand in the crate `selector`.
+//! The labels that an object's text gives, and whether they are selected. What finds them in the text stands in `finding`; label
+//! selectors in the crate `selector`.
 
-ghost use Rattle.std.specs.Prelude.{◌≡◌, IfOk, IfSome, option_map, true};
-ghost use Rattle.json.specs.Value.{value_view};
-ghost use Rattle.json_texts.specs.InOrder.{data_of, is_ordered};
+ghost use Rattle.std.specs.Prelude.{◌≡◌, IfOk, option_map};
 ghost use Rattle.serde_json.specs.View.{view};
-ghost use Rattle.selector.specs.Requirement.{selects};
 ghost use Rattle.selector.specs.Views as selector;
 ghost use Rattle.lists.specs.Labels.{labels_by, labels_of, labels_value};
 
-use json::Scratch;
-use json_texts::{as_object, member, to_value};
+use crate::finding::texts_at;
+use json::{Error, Scratch};
 use json_values::{read_text, texts_of};
-use revtable::{Fault, Keep};
+use revtable::Keep;
 use selector::Selector;
 use serde_json::Value;
 use std::alloc::{AllocError, Global};
+use std::cell::Cell;
 use std::collections::BTreeMap;
 
 /// The labels that a value gives.
@@ -36,50 +35,95 @@ fn labels_value(value: &Value) -> Option<&Value>
     value.get("metadata")?.get("labels")
 }
 
-/// The same of a value that borrows from its text.
-fn labels_lent<'v, 'a>(value: &'v json::Value<'a>) -> Option<&'v json::Value<'a>>
-    requires { is_ordered (value_view value.now) ≡ true }
-    ensures value { option_map (λ v. data_of (value_view v.now)) result ≡ labels_value (data_of (value_view value.now)) }
-    ensures ordered { IfSome result (λ v. is_ordered (value_view v.now) ≡ true) }
-{
-    let members = as_object(value)?;
-    let metadata = as_object(member(members, "metadata")?)?;
-    member(metadata, "labels")
-}
-
-/// The labels of a value that borrows from its text; of them alone a copy is made.
-fn labels_copied(
-    alloc: Global,
-    value: &json::Value<'_>,
-) -> Result<BTreeMap<String, String>, AllocError>
-    requires { is_ordered (value_view value.now) ≡ true }
-    ensures { IfOk result (λ m. selector.labels_of m ≡ labels_by (labels_value (data_of (value_view value.now)))) }
-{
-    match labels_lent(value) {
-        Some(labels) => labels_in(alloc, Some(&to_value(alloc, labels)?)),
-        None => labels_in(alloc, None),
-    }
-}
-
-/// The labels that an object's text gives. A text that is in order, as all texts of objects are, is read where it lies.
-pub(crate) fn labels_of(alloc: Global, text: &str) -> Result<BTreeMap<String, String>, AllocError>
+/// The same of a text that is read whole.
+fn read_whole(alloc: Global, text: &str) -> Result<BTreeMap<String, String>, AllocError>
     ensures { IfOk result (λ m. selector.labels_of m ≡ labels_of text.now) }
 {
-    let mut scratch = Scratch::new(alloc);
-    if let Some(value) = json_texts::read(alloc, text, &mut scratch)? {
-        return labels_copied(alloc, &value);
-    }
     let Some(value) = read_text(alloc, text)? else {
         return Ok(BTreeMap::new(alloc));
     };
     labels_in(alloc, labels_value(&value))
 }
 
+/// The labels that an object's text gives, of which the rest is passed over. A text that can't be read so is read whole.
+fn read_labels(
+    alloc: Global,
+    text: &str,
+    scratch: &mut Scratch,
+) -> Result<BTreeMap<String, String>, AllocError>
+    ensures { IfOk result (λ m. selector.labels_of m ≡ labels_of text.now) }
+{
+    match texts_at(alloc, text, &["metadata", "labels"], scratch) {
+        Ok(labels) => Ok(labels),
+        Err(Error::OutOfMemory) => Err(AllocError),
+        Err(_) => read_whole(alloc, text),
+    }
+}
+
+/// Reads the labels of one text after another. The reader's scratch, of which 16 KiB are cleared when it is made, is made at
+/// the first text and kept.
+#[derive(Drop)]
+pub(crate) struct LabelReader {
+    alloc: Global,
+    scratch: Option<Box<Scratch>>,
+}
+
+impl LabelReader {
+    /// Takes no memory.
+    pub(crate) fn new(alloc: Global) -> LabelReader {
+        LabelReader {
+            alloc,
+            scratch: None,
+        }
+    }
+
+    fn take_scratch(&mut self) -> Result<Box<Scratch>, AllocError> {
+        match self.scratch.take() {
+            Some(scratch) => Ok(scratch),
+            None => Ok(Box::new(self.alloc, Scratch::new(self.alloc))?),
+        }
+    }
+
+    /// The labels that an object's text gives.
+    pub(crate) fn labels_of(&mut self, text: &str) -> Result<BTreeMap<String, String>, AllocError>
+        ensures { IfOk result (λ m. selector.labels_of m ≡ labels_of text.now) }
+    {
+        let mut scratch = self.take_scratch()?;
+        let labels = read_labels(self.alloc, text, &mut scratch);
+        self.scratch = Some(scratch);
+        labels
+    }
+}
+
 /// The objects whose labels a selector takes.
-#[derive(Clone, Copy)]
+#[derive(Drop)]
 pub(crate) struct Labelled<'a> {
     pub(crate) alloc: Global,
     pub(crate) selector: &'a Selector,
+    /// What reads the labels of the next text.
+    pub(crate) reader: Cell<LabelReader>,
+}
+
+impl<'a> Labelled<'a> {
+    pub(crate) fn new(alloc: Global, selector: &'a Selector) -> Labelled<'a>
+        ensures { result.selector.now ≡ selector.now }
+    {
+        Labelled {
+            alloc,
+            selector,
+            reader: Cell::new(LabelReader::new(alloc)),
+        }
+    }
+
+    /// The labels that an object's text gives.
+    fn labels_of(&self, text: &str) -> Result<BTreeMap<String, String>, AllocError>
+        ensures { IfOk result (λ m. selector.labels_of m ≡ labels_of text.now) }
+    {
+        let mut reader = self.reader.replace(LabelReader::new(self.alloc));
+        let labels = reader.labels_of(text);
+        self.reader.set(reader);
+        labels
+    }
 }
 
 impl Keep for Labelled<'_> {
@@ -93,13 +137,6 @@ impl Keep for Labelled<'_> {
         if self.selector.is_all() {
             return Ok(true);
         }
-        Ok(self.selector.matches(&labels_of(self.alloc, text)?))
+        Ok(self.selector.matches(&self.labels_of(text)?))
     }
-}
-
-/// Whether the labels in an object's text are selected; the text isn't read where nothing is asked of them.
-pub(crate) fn is_selected(alloc: Global, selector: &Selector, text: &str) -> Result<bool, Fault>
-    ensures { IfOk result (λ b. b ≡ selects selector.now (labels_of text.now)) }
-{
-    Ok(Labelled { alloc, selector }.keeps(text)?)
 }

@@ -12,11 +12,13 @@
 
 mod collection;
 mod fault;
+mod finding;
 mod label_cache;
 mod labels;
 mod laws;
 mod listing;
 mod page;
+mod passing;
 mod refusal;
 mod revision;
 mod rows;

@@ -181,10 +181,7 @@ fn first_selected(
     ensures same { store.new ≡ store.old }
 {
     let of = selected.collection;
-    let keep = Labelled {
-        alloc,
-        selector: selected.selector,
-    };
+    let keep = Labelled::new(alloc, selected.selector);
     match store.first_kept(
         of.kind,
         of.namespace,
