@@ -115,3 +115,31 @@ fn refusals_are_told(rt: HostRuntime) -> Result<(), Fail> {
         sync 12 1 page 12 - w2@12 => there, 0 given up: /widgets?limit=2; (Some(12), 1, 1) -w1 +w2\n";
     expect_rows(rt.alloc(), "", rows)
 }
+
+/// A page that is longer than a client takes is given up with its head, as often as it comes; one that is as long as it may be is
+/// read on, until it is cut.
+#[test]
+fn pages_that_are_too_long_are_given_up(rt: HostRuntime) -> Result<(), Fail> {
+    let rows = "pages_that_are_too_long_are_given_up\n\
+        sync 0 3 bytes HTTP/1.1 200 OK¶Content-Length: 1073741825¶¶{|bytes HTTP/1.1 200 OK¶Content-Length: 1073741825¶¶{|bytes HTTP/1.1 200 OK¶Content-Length: 1073741825¶¶{|page 6 - w1@2 => not there, 3 given up: /widgets?limit=2 /widgets?limit=2 /widgets?limit=2; (None, 0, 0)\n\
+        sync 0 2 bytes HTTP/1.1 200 OK¶Content-Length: 1073741824¶¶{|page 6 - w1@2 => there, 0 given up: /widgets?limit=2 /widgets?limit=2; (Some(6), 1, 1) +w1\n";
+    expect_rows(rt.alloc(), "", rows)
+}
+
+/// A page whose texts aren't Unicode is given up.
+#[test]
+fn pages_that_are_not_unicode_are_given_up(rt: HostRuntime) -> Result<(), Fail> {
+    let rows = r#"pages_that_are_not_unicode_are_given_up
+sync 0 1 body {"apiVersion":"demo.example/v1","items":[{"apiVersion":"demo.example/v1","kind":"Widget","metadata":{"annotations":{"a":"\ud800"},"name":"w1","namespace":"default","resourceVersion":"2"}}],"kind":"WidgetList","metadata":{"resourceVersion":"2"}} => not there, 1 given up: /widgets?limit=2; (None, 0, 0)
+sync 0 1 body {"apiVersion":"demo.example/v1","items":[{"apiVersion":"demo.example/v1","kind":"Widget","metadata":{"annotations":{"a":"\ud83d\ude00"},"name":"w1","namespace":"default","resourceVersion":"2"}}],"kind":"WidgetList","metadata":{"resourceVersion":"2"}} => there, 0 given up: /widgets?limit=2; (Some(2), 1, 1) +w1"#;
+    expect_rows(rt.alloc(), "", rows)
+}
+
+/// A list below the revision that is wanted isn't enough: the watch behind it has to lead there.
+#[test]
+fn lists_below_the_revision_are_not_enough(rt: HostRuntime) -> Result<(), Fail> {
+    let rows = "lists_below_the_revision_are_not_enough\n\
+        sync 7 1 page 6 - w1@2|watch;line BOOKMARK 7 => not there, 0 given up: /widgets?limit=2; (Some(6), 1, 1) +w1\n\
+        sync 7 1 watch;line BOOKMARK 7 => there, 0 given up: /widgets?watch=true&resourceVersion=6&allowWatchBookmarks=true; (Some(7), 1, 1)\n";
+    expect_rows(rt.alloc(), "", rows)
+}

@@ -66,6 +66,16 @@ got 2 PATCH namespaces/default/widgets/w1?fieldManager=m {"apiVersion":"demo.exa
 told 3 PATCH namespaces/default/widgets/w1?fieldManager=m {"apiVersion":"demo.example/v1","kind":"Widget","spec":{"replicas":4}} => 503 revisions are used up
 told 4 PATCH namespaces/default/widgets/w2?fieldManager=m {"apiVersion":"demo.example/v1","kind":"Widget"} => 503 revisions are used up
 
+counts_and_the_last_revision on each kind, two revisions left: an apply of counts takes it; another of the same needs none, one of others is refused
+told 1 PATCH namespaces/default/widgets/w1?fieldManager=m {"apiVersion":"demo.example/v1","kind":"Widget","metadata":{"labels":{"tier":"web"}}} => 201 9223372036854775806
+open 2 4 => -
+in 2 PATCH /apis/summary.example/v1/namespaces/default/labelsummaries/summary?fieldManager=label-summary&force=true HTTP/1.1|$Host: localhost|$Content-Type: application/apply-patch+yaml|$Content-Length: 162|$|${"apiVersion":"summary.example/v1","kind":"LabelSummary","metadata":{"name":"summary","namespace":"default"},"spec":{"counts":{"web":1},"label":"tier","total":1}} => -
+got 2 => 201 {"apiVersion":"summary.example/v1","kind":"LabelSummary","metadata":{"managedFields":[{"apiVersion":"summary.example/v1","fieldsType":"FieldsV1","fieldsV1":{"f:spec":{"f:counts":{"f:web":{}},"f:label":{},"f:total":{}}},"manager":"label-summary","operation":"Apply"}],"name":"summary","namespace":"default","resourceVersion":"9223372036854775807"},"spec":{"counts":{"web":1},"label":"tier","total":1}}
+in 3 PATCH /apis/summary.example/v1/namespaces/default/labelsummaries/summary?fieldManager=label-summary&force=true HTTP/1.1|$Host: localhost|$Content-Type: application/apply-patch+yaml|$Content-Length: 162|$|${"apiVersion":"summary.example/v1","kind":"LabelSummary","metadata":{"name":"summary","namespace":"default"},"spec":{"counts":{"web":1},"label":"tier","total":1}} => -
+told 3 => 200 9223372036854775807
+in 4 PATCH /apis/summary.example/v1/namespaces/default/labelsummaries/summary?fieldManager=label-summary&force=true HTTP/1.1|$Host: localhost|$Content-Type: application/apply-patch+yaml|$Content-Length: 162|$|${"apiVersion":"summary.example/v1","kind":"LabelSummary","metadata":{"name":"summary","namespace":"default"},"spec":{"counts":{"web":2},"label":"tier","total":2}} => -
+told 4 => 503 revisions are used up
+
 empty_apply_of_another_object on widgets
 got 1 PATCH namespaces/default/widgets/w1?fieldManager=alice {"apiVersion":"demo.example/v1","kind":"Widget","spec":{"replicas":1}} => 201 {"apiVersion":"demo.example/v1","kind":"Widget","metadata":{"managedFields":[{"apiVersion":"demo.example/v1","fieldsType":"FieldsV1","fieldsV1":{"f:spec":{"f:replicas":{}}},"manager":"alice","operation":"Apply"}],"name":"w1","namespace":"default","resourceVersion":"2"},"spec":{"replicas":1}}
 got 2 PATCH namespaces/default/widgets/w1?fieldManager=bob {"apiVersion":"demo.example/v1","kind":"Widget"} => 200 {"apiVersion":"demo.example/v1","kind":"Widget","metadata":{"managedFields":[{"apiVersion":"demo.example/v1","fieldsType":"FieldsV1","fieldsV1":{"f:spec":{"f:replicas":{}}},"manager":"alice","operation":"Apply"}],"name":"w1","namespace":"default","resourceVersion":"2"},"spec":{"replicas":1}}

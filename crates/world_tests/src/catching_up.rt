@@ -1,5 +1,5 @@
-//! A client that catches up: the moves by which it comes to the server's current revision, wherever it was left, and where there
-//! are none that lead there.
+//! A client that catches up: the moves by which it comes to the server's current revision, wherever it was left. What they need
+//! stands in `premises`.
 
 use crate::drawn::drawn_events;
 use crate::events::events;
@@ -9,7 +9,7 @@ use crate::shown::moves_and_reports;
 use indexer::IndexBy;
 use std::alloc::Global;
 use std::test::Fail;
-use test_rows::{expect_text, number, play_all};
+use test_rows::{number, play_all};
 use world::{OverMemory, Report, World, WorldEvent};
 
 /// A request has 64 bytes beside its query, the head of a watch's reply 98.
@@ -47,14 +47,7 @@ moves 20 => cut; send; server 71; client 332; send; server 93; client 332; send;
 a_forgotten_revision_is_given_up: 410, and then a list
 from => -
 create w1; send; server; client; change w1 web; compact 3 => 4 2 [w1@2] {}
-moves 9 => send; server 117; client 235; send; server 71; client 499 -> 12 3 [w1@3] {web=1}
-
-no_connection_is_free: a client that gets 503 asks again and again
-from => -
-opens 1 1024 => -
-moves 6 => send; client 250; send; client 250; send; client 250 -> -
-gone 1 => -
-moves 6 => send; server 71; client 188 -> 1028 1 [] {}"#;
+moves 9 => send; server 117; client 235; send; server 71; client 499 -> 12 3 [w1@3] {web=1}"#;
 
 #[test]
 fn moves_to_the_current_revision(rt: HostRuntime) -> Result<(), Fail> {
@@ -67,7 +60,7 @@ fn world_after(
     words: &str,
     all: &[WorldEvent],
 ) -> Result<World<Box<dyn IndexBy>>, Fail> {
-    let types = types(alloc)?;
+    let types = types(alloc, words)?;
     let settings = settings(alloc, words)?;
     let mut world = World::new(alloc, types, settings, indexes(alloc, words)?)?;
     for (index, event) in all.iter().enumerate() {
@@ -83,27 +76,6 @@ pub fn moves(alloc: Global, words: &str, steps: &str, most: &str) -> Result<Stri
     let most = all.len().saturating_add(number(most)? as usize);
     let made = world.run_until_current(all.len(), most, &mut OverMemory)?;
     moves_and_reports(alloc, &made)
-}
-
-/// A selector that is longer than the head of a request may be.
-fn long_selector(alloc: Global) -> Result<String, Fail> {
-    let mut words = String::from_str(alloc, "selector=tier")?;
-    for _ in 0..3000 {
-        words.push_str(",tier")?;
-    }
-    Ok(words)
-}
-
-/// A client whose selector is too long for the server gets 431 and asks again and again.
-#[test]
-fn a_selector_that_is_too_long(rt: HostRuntime) -> Result<(), Fail> {
-    let alloc = rt.alloc();
-    let words = long_selector(alloc)?;
-    let made = moves(alloc, words.as_str(), "create w1 web", "9")?;
-    expect_text(
-        made,
-        "send; server 21090; client 273; send; server 21090; client 273; send; server 21090; client 273 -> -",
-    )
 }
 
 /// After how many drawn events the client catches up, each time.

@@ -169,6 +169,7 @@ fn drawn_events_with_ample_memory(rt: HostRuntime) -> Result<(), Fail> {
     let alloc = rt.alloc();
     let all = drawn(alloc)?;
     let settings = settings(alloc, "page=500")?;
-    let trace = run(alloc, types(alloc)?, settings, indexes(alloc, "")?, &all)?;
+    let types = types(alloc, "")?;
+    let trace = run(alloc, types, settings, indexes(alloc, "")?, &all)?;
     expect_listed(&trace, all.len())
 }

@@ -3,11 +3,11 @@
 //! | words | event |
 //! |---|---|
 //! | `open K`, `gone K`, `pump K N`, `tick MS`, `compact C` | of the hub |
-//! | `in K TEXT` | of the hub; in the text `\|` is a carriage return, `$` a line feed |
+//! | `in K TEXT` | of the hub; in the text `\|` is a carriage return, `$` a line feed, `^` a byte that is no UTF-8 |
 //! | `types atomic` | of the hub: the list of ports becomes atomic |
 //! | `opens A B` | of the hub: each connection from A to B opens |
 //! | `create W TIER`, `change W TIER`, `delete W` | a POST, PUT or DELETE of the widget W comes |
-//! | `ask METHOD TARGET BODY` | this request comes |
+//! | `ask METHOD TARGET BODY` | this request comes; in the body `<N TEXT>` is TEXT so many times |
 //! | `send`, `cut`, `restart`, `reconcile` | of the client |
 //! | `server N`, `client N` | N bytes come to the server, or to the client; without N all |
 //!
@@ -18,14 +18,22 @@ use httpedge::Event;
 use serde_json::Value;
 use std::alloc::{AllocError, Global};
 use std::test::Fail;
-use test_rows::{first_word, number};
+use test_rows::{bytes_of, first_word, number};
 use wireclient::request_bytes;
 use world::WorldEvent;
 
-fn bytes_of(alloc: Global, text: &str) -> Result<Vec<u8>, AllocError> {
-    let text = text.replace(alloc, '|', "\r")?;
-    let text = text.as_str().replace(alloc, '$', "\n")?;
-    Vec::from_slice(alloc, text.as_bytes())
+/// A text in which `<N TEXT>` is TEXT so many times.
+pub fn unfolded(alloc: Global, text: &str) -> Result<String, Fail> {
+    Ok(String::from_utf8(bytes_of(alloc, text)?).map_err(|_| "no text")?)
+}
+
+/// The bytes that a text in one line shows, where `^` is a byte that is no UTF-8.
+fn bytes_in(alloc: Global, text: &str) -> Result<Vec<u8>, Fail> {
+    let mut all = Vec::new(alloc);
+    for byte in bytes_of(alloc, text)? {
+        all.push(if byte == b'^' { 0xff } else { byte })?;
+    }
+    Ok(all)
 }
 
 /// A request of `METHOD TARGET BODY`.
@@ -36,8 +44,8 @@ fn asked(alloc: Global, line: &str) -> Result<Vec<u8>, Fail> {
         "PATCH" => "application/apply-patch+yaml",
         _ => "application/json",
     };
-    let body = Some(body.as_bytes());
-    Ok(request_bytes(alloc, method, target, media, body)?)
+    let body = bytes_of(alloc, body)?;
+    Ok(request_bytes(alloc, method, target, media, Some(&body))?)
 }
 
 fn labels(alloc: Global, tier: &str) -> Result<String, AllocError> {
@@ -84,7 +92,7 @@ fn hub_event(alloc: Global, word: &str, rest: &str) -> Result<Event, Fail> {
     let id = number(first)?;
     match word {
         "open" => Ok(Event::Open(id)),
-        "in" => Ok(Event::In(id, bytes_of(alloc, rest)?)),
+        "in" => Ok(Event::In(id, bytes_in(alloc, rest)?)),
         "gone" => Ok(Event::Gone(id)),
         "pump" => Ok(Event::Pump(id, number(rest)?)),
         "tick" => Ok(Event::Tick(id)),

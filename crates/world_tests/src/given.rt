@@ -17,12 +17,22 @@ const TYPES: &str =
 pub const PORTS_ATOMIC: &str =
     r#"{"types":[{"group":"demo.example","version":"v1","kind":"Widget","plural":"widgets","schema":{"type":"object","properties":{"spec":{"type":"object","properties":{"args":{"type":"array","items":{"type":"string"}},"config":{"type":"object","additionalProperties":{"type":"string"}},"image":{"type":"string"},"ports":{"type":"array","x-kubernetes-list-type":"atomic","items":{"type":"object","properties":{"name":{"type":"string"},"note":{"type":"string"},"port":{"type":"integer"}}}},"replicas":{"type":"integer"},"tags":{"type":"array","x-kubernetes-list-type":"set","items":{"type":"string"}}}}}}},{"group":"summary.example","version":"v1","kind":"LabelSummary","plural":"labelsummaries","schema":{"type":"object","properties":{"spec":{"type":"object","properties":{"counts":{"type":"object","additionalProperties":{"type":"integer"}},"label":{"type":"string"},"total":{"type":"integer"}}}}}}]}"#;
 
-fn types_in(alloc: Global, text: &str) -> Result<Types, Fail> {
-    Ok(Types::read(alloc, &Value::from_str(alloc, text)?)?)
-}
+/// Widgets alone.
+const WIDGETS: &str =
+    r#"{"types":[{"group":"demo.example","version":"v1","kind":"Widget","plural":"widgets","schema":{"type":"object","properties":{"spec":{"type":"object","properties":{"image":{"type":"string"}}}}}}]}"#;
 
-pub fn types(alloc: Global) -> Result<Types, Fail> {
-    types_in(alloc, TYPES)
+/// Widgets, and label summaries whose counts are texts.
+const COUNTS_OF_TEXTS: &str =
+    r#"{"types":[{"group":"demo.example","version":"v1","kind":"Widget","plural":"widgets","schema":{"type":"object","properties":{"spec":{"type":"object","properties":{"image":{"type":"string"}}}}}},{"group":"summary.example","version":"v1","kind":"LabelSummary","plural":"labelsummaries","schema":{"type":"object","properties":{"spec":{"type":"object","properties":{"counts":{"type":"object","additionalProperties":{"type":"string"}},"label":{"type":"string"},"total":{"type":"integer"}}}}}}]}"#;
+
+/// Of the word `types=`. Without it: widgets and label summaries.
+pub fn types(alloc: Global, words: &str) -> Result<Types, Fail> {
+    let text = match value_of(words, "types=", "") {
+        "widgets" => WIDGETS,
+        "texts" => COUNTS_OF_TEXTS,
+        _ => TYPES,
+    };
+    Ok(Types::read(alloc, &Value::from_str(alloc, text)?)?)
 }
 
 /// What stands behind the name in words `NAME=VALUE ..`, or what stands for it.
@@ -44,20 +54,24 @@ fn namespace(alloc: Global, words: &str) -> Result<Option<String>, AllocError> {
     }
 }
 
-fn summary(alloc: Global) -> Result<(String, String), AllocError> {
-    let namespace = String::from_str(alloc, "default")?;
-    Ok((namespace, String::from_str(alloc, "summary")?))
+/// Of the word `summary=NAMESPACE/NAME`.
+fn summary(alloc: Global, words: &str) -> Result<(String, String), AllocError> {
+    let place = value_of(words, "summary=", "default/summary");
+    let (namespace, name) = place.split_once('/').unwrap_or(("default", place));
+    let namespace = String::from_str(alloc, namespace)?;
+    Ok((namespace, String::from_str(alloc, name)?))
 }
 
-/// Of the words `kind=`, `namespace=`, `selector=` and `page=`. Without them: widgets of all namespaces, two in a page.
+/// Of the words `kind=`, `namespace=`, `selector=`, `page=`, `label=` and `summary=`. Without them: widgets of all namespaces, two
+/// in a page, counted by `tier` in the object `summary` of `default`.
 pub fn settings(alloc: Global, words: &str) -> Result<Settings, Fail> {
     Ok(Settings {
         kind: small_number(value_of(words, "kind=", "0"))?,
         namespace: namespace(alloc, words)?,
         selector: String::from_str(alloc, value_of(words, "selector=", ""))?,
         page: small_number(value_of(words, "page=", "2"))?,
-        label: String::from_str(alloc, "tier")?,
-        summary: summary(alloc)?,
+        label: String::from_str(alloc, value_of(words, "label=", "tier"))?,
+        summary: summary(alloc, words)?,
     })
 }
 

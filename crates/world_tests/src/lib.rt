@@ -18,6 +18,8 @@ mod links;
 #[cfg(test)]
 mod playing;
 #[cfg(test)]
+mod premises;
+#[cfg(test)]
 mod rows;
 #[cfg(test)]
 mod shown;

@@ -1,5 +1,5 @@
-//! A type that answers rows. Each example begins with `from WORDS`: the settings and indexes of a run (`given`), and with
-//! `link=N` one whose bytes go over a link that carries N pieces. The other questions:
+//! A type that answers rows. Each example begins with `from WORDS`: the types, settings and indexes of a run (`given`), where
+//! `<N TEXT>` is TEXT so many times, and with `link=N` one whose bytes go over a link that carries N pieces. The other questions:
 //!
 //! | question | answer |
 //! |---|---|
@@ -22,7 +22,7 @@
 
 use crate::catching_up::moves;
 use crate::cutting::{cuts, prefixes};
-use crate::events::events;
+use crate::events::{events, unfolded};
 use crate::given::{indexes, settings, types, value_of};
 use crate::links::Noting;
 use crate::shown::{index, lengths, reports_after, requested, targets, text_of, written};
@@ -48,7 +48,7 @@ pub fn ran(
 ) -> Result<Result<Trace, WorldFault>, Fail> {
     Ok(run(
         alloc,
-        types(alloc)?,
+        types(alloc, words)?,
         settings(alloc, words)?,
         indexes(alloc, words)?,
         all,
@@ -61,7 +61,7 @@ fn ran_anew(
     words: &str,
     all: &[WorldEvent],
 ) -> Result<Result<Trace, WorldFault>, Fail> {
-    let types = types(alloc)?;
+    let types = types(alloc, words)?;
     let settings = settings(alloc, words)?;
     let indexes = indexes(alloc, words)?;
     mark(alloc)?;
@@ -82,7 +82,7 @@ fn ran_over(
 ) -> Result<Result<Trace, WorldFault>, Fail> {
     Ok(run_over(
         alloc,
-        types(alloc)?,
+        types(alloc, words)?,
         settings(alloc, words)?,
         indexes(alloc, words)?,
         all,
@@ -140,7 +140,7 @@ impl Play {
     }
 
     fn begins(&mut self, alloc: Global, words: &str) -> Result<String, Fail> {
-        self.words = String::from_str(alloc, words)?;
+        self.words = unfolded(alloc, words)?;
         self.steps = String::new(alloc);
         self.count = 0;
         self.trace = None;
