@@ -1,6 +1,7 @@
 pub mod Ascii
 pub mod Blanks
 pub mod Checks
+pub mod Documents
 pub mod Found
 pub mod Leading
 pub mod Places

@@ -14,6 +14,7 @@ use Rattle.matchit.specs.Seek.{first}
 use Rattle.matchit.specs.Params.{walk, named}
 use Rattle.schema.specs.ObjectShape.{field_of}
 use Rattle.api_types.specs.TypesFile.{ServedShape, type_number}
+use Rattle.discovery.specs.Paths.{Document, document_in}
 use Rattle.api_request.specs.declared.method.Method.{Method}
 use Rattle.api_request.specs.declared.method.Method.TheVariants.{Get, Post, Put, Patch, Delete}
 use Rattle.api_request.specs.declared.reason.Reason.{Reason}
@@ -192,10 +193,28 @@ abbrev pub method_admitted : RequestInfo → Option Method → Option (List ℕ)
 method_admitted place None media = not_admitted MethodNotAllowed (codes "method not served here") (Some (allowed place.resource))
 method_admitted place (Some m) media = media_admitted place m media
 
-abbrev pub place_admitted : Option RequestInfo → List ℕ → Option (List ℕ) → Result Target Denied
-place_admitted None method media = not_admitted NotFound (codes "no such path") None
-place_admitted (Some place) method media = method_admitted place (method_served place.resource (method_named method)) media
+abbrev pub place_admitted : RequestInfo → List ℕ → Option (List ℕ) → Result Target Denied
+place_admitted place method media = method_admitted place (method_served place.resource (method_named method)) media
+
+-- ---- documents, which tell clients of the types (Kubernetes docs, "The Kubernetes API", "Discovery API", "OpenAPI V3")
+
+-- a document is a name without a namespace: its path
+abbrev pub document_target : List ℕ → Target
+document_target path = record { kind = 0; namespace = None; name = Some path; status = false; method = Get }
+
+-- served by GET alone
+abbrev pub document_admitted : Option Document → List ℕ → List ℕ → Result Target Denied
+document_admitted None method path = not_admitted NotFound (codes "no such path") None
+document_admitted (Some document) method path =
+    if bytes_eq method (name_of Get) then Ok (document_target path) else not_admitted MethodNotAllowed (codes "method not served here") (Some (name_of Get))
+
+-- ---- both
+
+-- by the place that the path leads to, or else the document that is there
+abbrev pub path_admitted : List ServedShape → Option RequestInfo → List ℕ → List ℕ → Option (List ℕ) → Result Target Denied
+path_admitted types None method path media = document_admitted (document_in types path) method path
+path_admitted types (Some place) method path media = place_admitted place method media
 
 -- what a request asks, by its method, its path and its `Content-Type`, or why it is refused
 abbrev pub admitted : List ServedShape → List ℕ → List ℕ → Option (List ℕ) → Result Target Denied
-admitted types method path media = place_admitted (place_of types path) method media
+admitted types method path media = path_admitted types (place_of types path) method path media

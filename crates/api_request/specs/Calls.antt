@@ -9,7 +9,8 @@ use Rattle.api_request.specs.declared.method.Method.{Method}
 use Rattle.api_request.specs.declared.reason.Reason.{Reason}
 
 -- what a call is of: the number of a type, a namespace unless it is over all, and a name unless it is of a collection; where there is a
--- name, whether it is of that object's status ("Custom Resources", "Status subresource")
+-- name, whether it is of that object's status ("Custom Resources", "Status subresource"). A name without a namespace is the path of a
+-- document of discovery
 pub record Target : Type 0 where
   pub kind : ℕ
   pub namespace : Option (List ℕ)
@@ -27,7 +28,7 @@ pub data Scope : Type 0 where
   of_namespace : List ℕ → Scope
   of_object : List ℕ → List ℕ → Subresource → Scope
 
--- by the namespace and the name of its target; a name alone names no object
+-- by the namespace and the name of its target; a name alone names no object, but a document
 abbrev pub scope_of : Option (List ℕ) → Option (List ℕ) → Bool → Option Scope
 scope_of None None status = Some of_all
 scope_of (Some namespace) None status = Some (of_namespace namespace)

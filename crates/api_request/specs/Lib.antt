@@ -2,6 +2,7 @@ pub mod Reasons
 pub mod Status
 pub mod Validated
 pub mod Json
+pub mod Parts
 pub mod Calls
 pub mod Stored
 pub mod Admit

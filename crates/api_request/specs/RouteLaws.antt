@@ -1,12 +1,16 @@
 -- What paths lead where, by their parts between slashes (Kubernetes docs, "Kubernetes API Concepts", "Resource URIs").
-use Rattle.std.specs.Prelude.{◌≡◌, ℕ, ◌<◌, true, false, List, [], ◌∷◌, length, Option, Some, None, option_map, codes}
+use Rattle.std.specs.Prelude.{◌≡◌, ℕ, ◌<◌, true, false, List, [], ◌∷◌, length, map, Option, Some, None, option_map, codes}
+use Rattle.std.specs.declared.result.Result.{Result}
 use Rattle.std.specs.Char.{is_ascii}
 use Rattle.std.specs.List.{join_with_byte, list_all}
 use Rattle.matchit.specs.Seek.{has_slash, slash}
+use Rattle.api_types.specs.Discovered.{are_discovered, discovered}
 use Rattle.api_types.specs.TypesFile.{ServedShape, type_number}
+use Rattle.api_request.specs.declared.reason.Reason.TheVariants.{NotFound}
 use Rattle.api_request.specs.declared.resource.Resource.{Resource}
 use Rattle.api_request.specs.declared.resource.Resource.TheVariants.{AllNamespaces, Collection, Object, Status}
-use Rattle.api_request.specs.Admit.{RequestInfo, kind_with, place_of}
+use Rattle.api_request.specs.Admit.{RequestInfo, admitted, kind_with, not_admitted, place_admitted, place_of}
+use Rattle.api_request.specs.Calls.{Denied, Target}
 
 -- a part of a path: at least one ASCII character, and no slash
 pub record IsPart (part : List ℕ) : Type 0 where
@@ -59,3 +63,19 @@ PathsOfStatus =
     (types : List ServedShape) (group version namespace plural name : List ℕ) → IsPart group → IsPart version → IsPart namespace → IsPart plural → IsPart name
     → place_of types (path_of_status group version namespace plural name)
     ≡ place_for Status (Some namespace) (Some name) (kind_with types Status (type_number group version plural types))
+
+-- ---- documents
+
+-- where documents tell of types, the places of objects are as they were
+abbrev pub DocumentsLeavePlaces : Type 0
+DocumentsLeavePlaces = (types : List ServedShape) (path : List ℕ) → place_of (map discovered types) path ≡ place_of types path
+
+-- by the place of objects that the path leads to, if there is one
+abbrev pub admitted_at : Option RequestInfo → List ℕ → Option (List ℕ) → Result Target Denied
+admitted_at None method media = not_admitted NotFound (codes "no such path") None
+admitted_at (Some place) method media = place_admitted place method media
+
+-- where none tells of them, only requests of objects are admitted
+abbrev pub OnlyObjects : Type 0
+OnlyObjects =
+    (types : List ServedShape) (method path : List ℕ) (media : Option (List ℕ)) → are_discovered types ≡ false → admitted types method path media ≡ admitted_at (place_of types path) method media

@@ -2,7 +2,9 @@
 //! `naming`.
 
 ghost use Rattle.std.specs.Prelude.{◌≡◌, IfOk, Err, option_map};
-ghost use Rattle.api_request.specs.Admit.{not_admitted, method_served, place_admitted, target_at};
+ghost use Rattle.api_types.specs.Served.{types_view};
+ghost use Rattle.discovery.specs.Paths.{document_in};
+ghost use Rattle.api_request.specs.Admit.{document_admitted, document_target, not_admitted, method_served, place_admitted, target_at};
 ghost use Rattle.api_request.specs.Views.{Admits, place_seen, target_of};
 
 use crate::calls::Target;
@@ -11,6 +13,8 @@ use crate::method::Method;
 use crate::place::RequestInfo;
 use crate::reason::Reason;
 use crate::resource::Resource;
+use api_types::Types;
+use discovery::document_in;
 use json_values::copied;
 use std::alloc::{AllocError, Global};
 use thiserror::Error;
@@ -82,18 +86,15 @@ fn method_served(resource: Resource, method: Option<Method>) -> Option<Method>
     }
 }
 
-/// What a request asks, by the place that its path leads to, its method and its media type.
+/// What a request of a place asks, by its method and its media type.
 pub fn admitted(
     alloc: Global,
-    place: Option<RequestInfo<'_>>,
+    place: RequestInfo<'_>,
     method: &str,
     media: Option<&[u8]>,
 ) -> Result<Target, AdmitFault>
-    ensures { Admits result (place_admitted (option_map place_seen place.entry) method.now (option_map (λ b. b.now) media.entry)) }
+    ensures { Admits result (place_admitted (place_seen place.entry) method.now (option_map (λ b. b.now) media.entry)) }
 {
-    let Some(place) = place else {
-        return Err(refused(Reason::NotFound, NO_PATH, None));
-    };
     let Some(method) = method_served(place.resource, Method::named(method)) else {
         let allowed = place.resource.allowed();
         return Err(refused(Reason::MethodNotAllowed, NOT_SERVED, Some(allowed)));
@@ -102,4 +103,34 @@ pub fn admitted(
         return Err(refused(Reason::UnsupportedMediaType, "media type not served", None));
     }
     Ok(target_at(alloc, place, method)?)
+}
+
+fn document_target(alloc: Global, path: &str) -> Result<Target, AllocError>
+    ensures { IfOk result (λ t. target_of t ≡ document_target path.now) }
+{
+    Ok(Target {
+        kind: 0,
+        namespace: None,
+        name: Some(String::from_str(alloc, path)?),
+        status: false,
+        method: Method::Get,
+    })
+}
+
+/// What a request asks whose path leads to no place: a document of discovery, if there is one.
+pub fn document_admitted(
+    alloc: Global,
+    types: &Types,
+    method: &str,
+    path: &str,
+) -> Result<Target, AdmitFault>
+    ensures { Admits result (document_admitted (document_in (types_view types.now) path.now) method.now path.now) }
+{
+    if document_in(types, path).is_none() {
+        return Err(refused(Reason::NotFound, NO_PATH, None));
+    }
+    if method != "GET" {
+        return Err(refused(Reason::MethodNotAllowed, NOT_SERVED, Some("GET")));
+    }
+    Ok(document_target(alloc, path)?)
 }

@@ -23,7 +23,7 @@ pub struct Target {
     pub kind: u32,
     /// None over all namespaces.
     pub namespace: Option<String>,
-    /// None for a collection.
+    /// None for a collection; where there is no namespace, the path of a document of discovery.
     pub name: Option<String>,
     /// Whether it is of the status of the object of this name.
     pub status: bool,
@@ -56,7 +56,7 @@ impl Target {
     ghost use Rattle.api_request.specs.Calls.{scope_of};
     ghost use Rattle.api_request.specs.Views.{scope_seen, target_of};
 
-    /// Which objects it is of; none for a name without a namespace, to which no path leads.
+    /// Which objects it is of; none for a name without a namespace, which is the path of a document.
     pub fn scope(&self) -> Option<Scope<'_>>
         ensures { let t = target_of self.now in option_map scope_seen result ≡ scope_of t.namespace t.name t.status }
     {

@@ -2,9 +2,9 @@
 //! What is checked of a body stands in the crate `api_validation`, what a call comes to in `verbs`.
 //!
 //! Promises: a path leads where its parts say; a request is refused for its route first, then for its method, then for its
-//! media type; a refusal is told by the Status of its reason.
-//! Stands on `schema` for the types that paths name, `objects` for subresources, `history` for keys, `watchline` for where a
-//! watch begins and for Status objects, `json_values` for values, and on `matchit` for routes.
+//! media type; documents are there for discovered types alone; a refusal is told by the Status of its reason.
+//! Stands on `schema` for the types that paths name, `discovery` for documents, `objects` for subresources, `history` for
+//! keys, `watchline` for where a watch begins and for Status objects, `json_values` for values, and on `matchit` for routes.
 #![tactic(auto)]
 
 mod admitting;
@@ -15,6 +15,7 @@ mod calls;
 mod change;
 mod media;
 mod method;
+mod parts;
 mod place;
 mod reason;
 mod resource;
@@ -34,5 +35,5 @@ pub use place::RequestInfo;
 pub use reason::Reason;
 pub use resource::Resource;
 pub use route::Routes;
-pub use route_laws::paths_lead_by_parts;
+pub use route_laws::{documents_leave_places, paths_lead_by_parts};
 pub use status::status_value;

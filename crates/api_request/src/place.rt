@@ -1,13 +1,15 @@
 //! The place in the routes that a path leads to. The routes stand in `route`.
 
 ghost use Rattle.std.specs.Prelude.{◌≡◌, is_some, option_map};
-ghost use Rattle.matchit.specs.Params.{AllText, named};
+ghost use Rattle.matchit.specs.Params.{AllText};
 ghost use Rattle.schema.specs.ObjectShape.{field_of};
 ghost use Rattle.api_types.specs.Served.{types_view};
 ghost use Rattle.schema.specs.Shape.{shape};
-ghost use Rattle.api_request.specs.Admit.{has_status, kind_in, kind_with, place_in};
+ghost use Rattle.api_request.specs.Admit.{Parts, has_status, kind_in, kind_with, place_in};
+ghost use Rattle.api_request.specs.Parts.{AreParts};
 ghost use Rattle.api_request.specs.Views.{parts_of, place_seen};
 
+use crate::parts::{PathParts, parts_in};
 use crate::resource::Resource;
 use api_types::Types;
 use matchit::Params;
@@ -23,23 +25,11 @@ pub struct RequestInfo<'p> {
     pub name: Option<&'p str>,
 }
 
-/// The part of a path that a name in its route took.
-fn part<'p>(params: &Params<'_, 'p>, name: &str) -> Option<&'p str>
-    requires { AllText (parts_of params.now) }
-    ensures { option_map (λ s. s.now) result ≡ named name.now (parts_of params.now) }
-{
-    params.get(name)
-}
-
 /// The number of the type that the parts of a path name.
-fn kind_in(types: &Types, params: &Params<'_, '_>) -> Option<u32>
-    requires { AllText (parts_of params.now) }
-    ensures { result ≡ kind_in (types_view types.now) (parts_of params.now) }
+fn kind_in(types: &Types, parts: PathParts<'_>) -> Option<u32>
+    ensures { (all : Parts) → AreParts parts.entry all → result ≡ kind_in (types_view types.now) all }
 {
-    let group = part(params, "group")?;
-    let version = part(params, "version")?;
-    let plural = part(params, "plural")?;
-    types.find(group, version, plural)
+    types.find(parts.group?, parts.version?, parts.plural?)
 }
 
 fn has_field(schema: &Schema, name: &str) -> bool
@@ -81,10 +71,11 @@ pub fn place_in<'p>(
     requires { AllText (parts_of params.now) }
     ensures { option_map place_seen result ≡ place_in (types_view types.now) resource (parts_of params.now) }
 {
+    let parts = parts_in(params);
     Some(RequestInfo {
         resource,
-        kind: kind_with(types, resource, kind_in(types, params))?,
-        namespace: part(params, "namespace"),
-        name: part(params, "name"),
+        kind: kind_with(types, resource, kind_in(types, parts))?,
+        namespace: parts.namespace,
+        name: parts.name,
     })
 }

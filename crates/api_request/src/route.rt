@@ -4,7 +4,7 @@ ghost use Rattle.std.specs.Prelude.{◌≡◌, OnOk};
 ghost use Rattle.matchit.specs.Route.{parse_route};
 ghost use Rattle.api_request.specs.Admit.{FitsIn, routes, with_route};
 
-use crate::admitting::{AdmitFault, admitted};
+use crate::admitting::{AdmitFault, admitted, document_admitted};
 use crate::calls::Target;
 use crate::place::{RequestInfo, place_in};
 use crate::resource::Resource;
@@ -76,7 +76,7 @@ impl Routes {
     }
 
     /// What a request asks, by its method, its path and the value of its `Content-Type`: the route is validated first,
-    /// then the method, then the media type.
+    /// then the method, then the media type. Of discovered types the path may be a document's, which GET alone serves.
     pub fn admit(
         &self,
         alloc: Global,
@@ -87,6 +87,9 @@ impl Routes {
     ) -> Result<Target, AdmitFault>
         ensures { Admits result (admitted (types_view types.now) method.now path.now (option_map (λ b. b.now) media.entry)) }
     {
-        admitted(alloc, self.place(types, path), method, media)
+        match self.place(types, path) {
+            Some(place) => admitted(alloc, place, method, media),
+            None => document_admitted(alloc, types, method, path),
+        }
     }
 }

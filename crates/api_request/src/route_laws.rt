@@ -1,6 +1,6 @@
-//! The law of paths; calls stand in `laws`. The function does nothing; what it promises is the law.
+//! The laws of paths; calls stand in `laws`. A function does nothing; what it promises is the law.
 
-ghost use Rattle.api_request.specs.RouteLaws.{PathsOfAll, PathsOfCollections, PathsOfObjects, PathsOfStatus};
+ghost use Rattle.api_request.specs.RouteLaws.{DocumentsLeavePlaces, OnlyObjects, PathsOfAll, PathsOfCollections, PathsOfObjects, PathsOfStatus};
 
 /// A path leads where its parts between slashes say: to all objects of a type, to those in a namespace, to one, or to
 /// its status, where the objects of the type have one.
@@ -9,4 +9,10 @@ pub fn paths_lead_by_parts()
     ensures collections { PathsOfCollections }
     ensures objects { PathsOfObjects }
     ensures status { PathsOfStatus }
+{}
+
+/// Discovered types have the places that they have else, and beside them documents; without discovery there are only places.
+pub fn documents_leave_places()
+    ensures places { DocumentsLeavePlaces }
+    ensures objects { OnlyObjects }
 {}

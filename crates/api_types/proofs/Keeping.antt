@@ -58,13 +58,13 @@ mutual
 
 pub itself : SameIsLawful
 itself [] = refl
-itself (t ∷ ts) = both_true (both_true (bytes_same t.group) (both_true (bytes_same t.version) (both_true (bytes_same t.kind) (both_true (bytes_same t.plural) (shape_itself true t.shape))))) (itself ts)
+itself (t ∷ ts) = both_true (both_true (bool_itself t.is_discovered) (both_true (bytes_same t.group) (both_true (bytes_same t.version) (both_true (bytes_same t.kind) (both_true (bytes_same t.plural) (shape_itself true t.shape)))))) (itself ts)
 
 -- ---- numbers
 
 named_still : (g v p : List ℕ) (t u : ServedShape) → type_may_become t u ≡ true → is_named g v p u ≡ is_named g v p t
 named_still g v p t u h =
-    let group = and_parts (bytes_eq t.group u.group) _ h in
+    let group = and_parts (bytes_eq t.group u.group) _ (and_parts (beq t.is_discovered u.is_discovered) _ h).1 in
     let version = and_parts (bytes_eq t.version u.version) _ group.1 in
     let kind = and_parts (bytes_eq t.kind u.kind) _ version.1 in
     let plural = and_parts (bytes_eq t.plural u.plural) _ kind.1 in

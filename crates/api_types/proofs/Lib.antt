@@ -8,6 +8,7 @@ pub mod Numbering
 pub mod Placing
 pub mod Pairs
 pub mod Keeping
+pub mod Marks
 pub mod Reading
 pub mod Sorting
 pub mod Texts

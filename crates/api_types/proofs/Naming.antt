@@ -1,5 +1,5 @@
 -- Types that are read have lawful names.
-use Rattle.std.proofs.Common.{◌≡◌, ◌&&◌, ℕ, ap, refl, subst, cond, List, [], ◌∷◌, Bool, true, false, Option, Some, None, Result, Ok, Err, codes}
+use Rattle.std.proofs.Common.{◌≡◌, ◌&&◌, ◌||◌, ℕ, ap, ap₂, refl, subst, cond, List, [], ◌∷◌, Bool, true, false, Option, Some, None, Result, Ok, Err, codes}
 use Rattle.std.proofs.lemmas.Bool.{and_parts}
 use Rattle.std.proofs.lemmas.List.Elements.{All-nil, All-cons}
 use Rattle.std.specs.List.{All, list_all}
@@ -7,11 +7,13 @@ use Rattle.serde_json.specs.Data.{Data, Items, no_items, item}
 use Rattle.serde_json.specs.Find.{get_member, as_object}
 use Rattle.names.specs.Names.{is_dns_label, is_dns_subdomain}
 use Rattle.json_values.specs.Members.{text_at}
+use Rattle.api_types.specs.ChangeLaws.{FilesMarkNone}
+use Rattle.api_types.specs.Discovered.{are_discovered}
 use Rattle.api_types.specs.Named.{are_named, has_names}
 use Rattle.api_types.specs.Names.{is_kind_name, is_plural}
-use Rattle.api_types.specs.Refusals.{Refusal, and_then, not_the_form, some_or}
+use Rattle.api_types.specs.Refusals.{Refusal, and_then, not_the_form, same_names, some_or}
 use Rattle.schema.specs.Shape.{text}
-use Rattle.api_types.specs.TypesFile.{ServedShape, names_differ, object_of, one_type, text_where, type_members, type_of, type_shape, types_of}
+use Rattle.api_types.specs.TypesFile.{ServedShape, listed, names_differ, object_of, one_type, text_where, type_members, type_of, type_shape, types_of}
 
 passed : {A B : Type 0} (r : Result A Refusal) (f : A → Result B Refusal) (b : B) → and_then r f ≡ Ok b → (a : A) × (r ≡ Ok a) × (f a ≡ Ok b)
 passed (Ok a) f b is = (a, refl, is)
@@ -30,14 +32,15 @@ both true b x y = y
 both false b x y = absurd cc
 
 none_named : ServedShape
-none_named = record { group = []; version = []; kind = []; plural = []; shape = text }
+none_named = record { group = []; version = []; kind = []; plural = []; shape = text; is_discovered = false }
 
 abbrev ok_part : Result ServedShape Refusal → ServedShape
 ok_part (Ok t) = t
 ok_part (Err e) = none_named
 
-pub names_of_read : (d : Data) (t : ServedShape) → type_of d ≡ Ok t → has_names t ≡ true
-names_of_read d t is =
+-- and none is discovered
+pub type_read : (d : Data) (t : ServedShape) → type_of d ≡ Ok t → (has_names t ≡ true) × (t.is_discovered ≡ false)
+type_read d t is =
     let a = passed (object_of type_members (as_object d)) _ t is in
     let ms = a.0 in
     let group = passed (text_where is_dns_subdomain (text_at (codes "group") ms)) _ t a.2 in
@@ -46,10 +49,10 @@ names_of_read d t is =
     let plural = passed (text_where is_plural (text_at (codes "plural") ms)) _ t kind.2 in
     let found = passed (some_or not_the_form (get_member (codes "schema") ms)) _ t plural.2 in
     let shaped = passed (type_shape (as_object found.0)) _ t found.2 in
-    let made : ServedShape = record { group = group.0; version = version.0; kind = kind.0; plural = plural.0; shape = shaped.0 } in
+    let made : ServedShape = record { group = group.0; version = version.0; kind = kind.0; plural = plural.0; shape = shaped.0; is_discovered = false } in
     let same : made ≡ t = ap ok_part shaped.2 in
-    subst (λ (u : ServedShape). has_names u ≡ true) same
-    (both _ _ (where_holds is_dns_subdomain (text_at (codes "group") ms) group.0 group.1) (both _ _ (where_holds is_dns_label (text_at (codes "version") ms) version.0 version.1) (both _ _ (where_holds is_kind_name (text_at (codes "kind") ms) kind.0 kind.1) (where_holds is_plural (text_at (codes "plural") ms) plural.0 plural.1))))
+    subst (λ (u : ServedShape). (has_names u ≡ true) × (u.is_discovered ≡ false)) same
+    (both _ _ (where_holds is_dns_subdomain (text_at (codes "group") ms) group.0 group.1) (both _ _ (where_holds is_dns_label (text_at (codes "version") ms) version.0 version.1) (both _ _ (where_holds is_kind_name (text_at (codes "kind") ms) kind.0 kind.1) (where_holds is_plural (text_at (codes "plural") ms) plural.0 plural.1))), refl)
 
 one_read : (r : Result ServedShape Refusal) (rest : Result (List ServedShape) Refusal) (ts : List ServedShape) → one_type r rest ≡ Ok ts
     → (t : ServedShape) × (us : List ServedShape) × (r ≡ Ok t) × (rest ≡ Ok us) × (t ∷ us ≡ ts)
@@ -61,7 +64,23 @@ pub all_named : (ds : Items) (ts : List ServedShape) → types_of ds ≡ Ok ts �
 all_named no_items ts is = let none : [] ≡ ts = cc in subst (λ (us : List ServedShape). list_all has_names us ≡ true) none refl
 all_named (item d ds) ts is =
     let one = one_read (type_of d) (types_of ds) ts is in
-    subst (λ (us : List ServedShape). list_all has_names us ≡ true) one.4 (both _ _ (names_of_read d one.0 one.2) (all_named ds one.1 one.3))
+    subst (λ (us : List ServedShape). list_all has_names us ≡ true) one.4 (both _ _ (type_read d one.0 one.2).0 (all_named ds one.1 one.3))
+
+pub none_discovered : (ds : Items) (ts : List ServedShape) → types_of ds ≡ Ok ts → are_discovered ts ≡ false
+none_discovered no_items ts is = let none : [] ≡ ts = cc in subst (λ (us : List ServedShape). are_discovered us ≡ false) none refl
+none_discovered (item d ds) ts is =
+    let one = one_read (type_of d) (types_of ds) ts is in
+    subst (λ (us : List ServedShape). are_discovered us ≡ false) one.4 (ap₂ (λ a b. a || b) (type_read d one.0 one.2).1 (none_discovered ds one.1 one.3))
+
+pub file_marks_none : FilesMarkNone
+file_marks_none file types is =
+    let ds = passed (listed file) _ types is in
+    let ts = passed (types_of ds.0) _ types ds.2 in
+    go (names_differ ts.0) ts.0 ts.2 (none_discovered ds.0 ts.0 ts.1)
+  where
+    go : (b : Bool) (us : List ServedShape) → cond b (Ok us) (Err same_names) ≡ Ok types → are_discovered us ≡ false → are_discovered types ≡ false
+    go true us e none = let same : us ≡ types = cc in subst (λ (vs : List ServedShape). are_discovered vs ≡ false) same none
+    go false us e none = absurd cc
 
 pub named : (ds : Items) (ts : List ServedShape) → types_of ds ≡ Ok ts → names_differ ts ≡ true → are_named ts ≡ true
 unfolding are_named

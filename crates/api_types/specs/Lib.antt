@@ -7,6 +7,7 @@ pub mod Forms
 pub mod TypesFile
 pub mod ServedViews
 pub mod Served
+pub mod Discovered
 pub mod Views
 pub mod FaultPlaces
 pub mod Retyping

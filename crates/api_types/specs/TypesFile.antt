@@ -72,6 +72,8 @@ pub record ServedShape : Type 0 where
   pub kind : List ℕ
   pub plural : List ℕ
   pub shape : Shape
+  -- whether documents tell clients of it (`Discovered`); a types file says so of none
+  pub is_discovered : Bool
 
 -- properties of these names at the top of a type's schema are ignored
 abbrev pub is_envelope : List ℕ → Bool
@@ -122,7 +124,7 @@ type_of d =
     and_then (text_where is_plural (text_at (codes "plural") ms)) (λ plural.
     and_then (some_or not_the_form (get_member (codes "schema") ms)) (λ schema.
     and_then (type_shape (as_object schema)) (λ s.
-    Ok (record { group = group; version = version; kind = kind; plural = plural; shape = s }))))))))
+    Ok (record { group = group; version = version; kind = kind; plural = plural; shape = s; is_discovered = false }))))))))
 
 -- type by type
 abbrev pub one_type : Result ServedShape Refusal → Result (List ServedShape) Refusal → Result (List ServedShape) Refusal

@@ -175,6 +175,7 @@ pub(crate) fn read_type(alloc: Global, value: &Value) -> Result<Served, TypesFau
         kind: String::from_str(alloc, kind)?,
         plural: String::from_str(alloc, plural)?,
         schema: read_root(alloc, schema)?,
+        is_discovered: false,
     })
 }
 

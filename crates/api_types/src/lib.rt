@@ -3,12 +3,14 @@
 //!
 //! Promises: a types file reads as exactly the types that it declares, or as its first fault,
 //! of which the type and the part of its schema can be told;
-//! types may take the place of others just where only sets, map lists and granular maps have become atomic.
+//! types may take the place of others just where only sets, map lists and granular maps have become atomic;
+//! discovered types differ from the same ones of which no document tells in that mark alone.
 //! Stands on `schema` for schemas, on `names` for names, on `serde_json` and `json_values` for the file.
 #![tactic(auto)]
 
 mod becoming;
 mod change_laws;
+mod discovered;
 mod fault;
 mod fault_place;
 mod file;
@@ -22,7 +24,7 @@ mod served;
 mod type_names;
 mod types;
 
-pub use change_laws::lawful_changes;
+pub use change_laws::{files_mark_none, lawful_changes};
 pub use fault::TypesFault;
 pub use fault_place::{FaultPlace, LocatedFault, Part, Step};
 pub use lawful::is_lawful;

@@ -19,6 +19,8 @@ pub struct Served {
     pub plural: String,
     /// A granular struct.
     pub schema: Schema,
+    /// Whether documents tell clients of it (Kubernetes docs, "The Kubernetes API", "Discovery API"); a types file marks none.
+    pub is_discovered: bool,
 }
 
 impl Served {

@@ -6,6 +6,7 @@ ghost use Rattle.std.specs.List.{list_all};
 ghost use Rattle.schema.specs.ObjectTest.{is_object_shape};
 ghost use Rattle.schema.specs.Shape.{shape};
 
+use crate::discovered::{are_discovered, mark_all};
 use crate::fault::TypesFault;
 use crate::file::{listed, read_types};
 use crate::served::{Served, names_differ};
@@ -25,6 +26,7 @@ impl Types {
     ghost use Rattle.std.specs.Prelude.{◌≡◌, ℕ, Some, true, slice_get, option_map, map, IfSome};
     ghost use Rattle.std.specs.List.{All};
     ghost use Rattle.serde_json.specs.View.{view};
+    ghost use Rattle.api_types.specs.Discovered.{are_discovered, discovered, with_marks_of};
     ghost use Rattle.api_types.specs.Served.{served, types_view};
     ghost use Rattle.schema.specs.Lawful.{is_granular_struct, is_lawful};
     ghost use Rattle.schema.specs.ObjectShape.{IsObjectShape};
@@ -46,7 +48,8 @@ impl Types {
         Ok(Types { all })
     }
 
-    pub(crate) fn all(&self) -> &[Served]
+    /// All types, by their numbers.
+    pub fn all(&self) -> &[Served]
         ensures { map served result.now ≡ types_view self.now }
     {
         &self.all
@@ -75,6 +78,32 @@ impl Types {
         ensures object { IfSome result (λ s. IsObjectShape (shape s.now.schema)) }
     {
         self.all.get(number as usize)
+    }
+
+    /// Whether documents tell clients of these types.
+    pub fn are_discovered(&self) -> bool
+        ensures { result ≡ are_discovered (types_view self.now) }
+    {
+        are_discovered(&self.all)
+    }
+
+    /// The same types, of which documents tell clients.
+    pub fn with_discovery(self) -> Types
+        ensures { types_view result ≡ map discovered (types_view self) }
+    {
+        let Types { mut all } = self;
+        mark_all(&mut all);
+        Types { all }
+    }
+
+    /// The same types, of which documents tell if they tell of the others.
+    pub fn with_marks_of(self, others: &Types) -> Types
+        ensures { types_view result ≡ with_marks_of (types_view others.now) (types_view self) }
+    {
+        match others.are_discovered() {
+            true => self.with_discovery(),
+            false => self,
+        }
     }
 
     /// Each type has lawful names, and no two have the same.

@@ -1,6 +1,7 @@
 -- The body of a deletion: what it asks of the object that stands (Kubernetes API reference, "DeleteOptions", "Preconditions").
 -- Members that are not named here are ignored, and so is one that is blank, as is said of each.
-use Rattle.std.specs.Prelude.{ℕ, Bool, true, false, List, [], ◌∷◌, Option, Some, None, if◌then◌else◌, codes}
+use Rattle.std.specs.Prelude.{ℕ, Bool, true, false, ◌&&◌, ◌||◌, List, [], ◌∷◌, Option, Some, None, option_and_then, if◌then◌else◌, codes}
+use Rattle.std.specs.Str.{bytes_eq}
 use Rattle.std.specs.declared.result.Result.TheVariants.{Ok}
 use Rattle.serde_json.specs.Data.{Data, null, string, array, object, Items, no_items, item, Members}
 use Rattle.serde_json.specs.Find.{get_member, as_object}
@@ -27,6 +28,19 @@ is_blank (Some null) = true
 is_blank (Some (string s)) = is_no_text s
 is_blank (Some (array ds)) = is_no_list ds
 is_blank (Some d) = false
+
+abbrev pub is_all : Data → Bool
+is_all (string s) = bytes_eq s (codes "All")
+is_all d = false
+
+-- the list of `All` ("Kubernetes API Concepts", "Dry-run")
+abbrev pub are_all : Items → Bool
+are_all no_items = false
+are_all (item d ds) = is_no_list ds && is_all d
+
+abbrev pub asks_dry_run : Option Data → Bool
+asks_dry_run (Some (array ds)) = are_all ds
+asks_dry_run d = false
 
 -- the text of a member; none where it is absent, null or the empty text
 abbrev pub text_in : Option Data → Validated (Option (List ℕ))
@@ -62,12 +76,20 @@ preconditions_in (Some null) = Ok None
 preconditions_in (Some (object ms)) = preconditions_read ms
 preconditions_in (Some d) = bad_options
 
--- the version that the options ask for, if any; `dryRun` isn't served, so it has to be blank
-abbrev pub options_in : Option Members → Validated (Option ℕ)
-options_in None = bad_options
-options_in (Some ms) = if is_blank (get_member (codes "dryRun") ms) then preconditions_in (get_member (codes "preconditions") ms) else bad_options
+-- `dryRun` has to be blank, but of a type that clients discover it may ask for a dry run
+abbrev pub may_stand : Bool → Option Data → Bool
+may_stand is_lenient dry_run = if is_lenient then is_blank dry_run || asks_dry_run dry_run else is_blank dry_run
 
--- the version that a deletion's body asks for, if any
-abbrev pub options_validated : Option Data → Validated (Option ℕ)
-options_validated None = Ok None
-options_validated (Some body) = options_in (as_object body)
+-- the version that the options ask for, if any
+abbrev pub options_in : Bool → Option Members → Validated (Option ℕ)
+options_in is_lenient None = bad_options
+options_in is_lenient (Some ms) = if may_stand is_lenient (get_member (codes "dryRun") ms) then preconditions_in (get_member (codes "preconditions") ms) else bad_options
+
+-- the version that the body of a deletion asks for, if any
+abbrev pub options_validated : Bool → Option Data → Validated (Option ℕ)
+options_validated is_lenient None = Ok None
+options_validated is_lenient (Some body) = options_in is_lenient (as_object body)
+
+-- whether the body of a deletion asks for a dry run
+abbrev pub is_dry_deletion : Option Data → Bool
+is_dry_deletion body = asks_dry_run (option_and_then (get_member (codes "dryRun")) (option_and_then as_object body))

@@ -16,7 +16,7 @@ mod size;
 
 pub use envelope::{Expected, api_version_of, name_in, validate};
 pub use naming::{require_name, validate_labels_and_annotations_by, validate_names};
-pub use options::validate_options;
-pub use parameters::read_parameters;
+pub use options::{is_dry_deletion, validate_options};
+pub use parameters::{read_parameters, words_are_read};
 pub use reading::read_config;
 pub use size::validate_size;

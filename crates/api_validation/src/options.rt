@@ -4,10 +4,12 @@
 ghost use Rattle.std.specs.Prelude.{◌≡◌, codes, option_map};
 ghost use Rattle.serde_json.specs.View.{items_view, members_view, view};
 ghost use Rattle.api_request.specs.declared.reason.Reason.TheVariants.{BadRequest};
-ghost use Rattle.api_validation.specs.Options.{is_blank, is_no_list, options_in, options_validated, preconditions_in, preconditions_read, text_in};
+ghost use Rattle.api_types.specs.Served as types;
+ghost use Rattle.api_validation.specs.Options.{are_all, asks_dry_run, is_all, is_blank, is_dry_deletion, is_no_list, may_stand, options_in, options_validated, preconditions_in, preconditions_read, text_in};
 ghost use Rattle.api_request.specs.Views.{RefusesFor, Returns, body_seen};
 
 use api_request::{Body, CallError, Reason};
+use api_types::Served;
 use json_values::{member, unless_empty};
 use names::version_of;
 use serde_json::{Map, Value};
@@ -38,6 +40,47 @@ fn is_blank(member: Option<&Value>) -> bool
         Value::Array(items) => is_no_list(items),
         _ => false,
     }
+}
+
+fn is_all(value: &Value) -> bool
+    ensures { result ≡ is_all (view value.now) }
+{
+    match value {
+        Value::String(text) => text.as_str() == "All",
+        _ => false,
+    }
+}
+
+fn are_all(items: &[Value]) -> bool
+    ensures { result ≡ are_all (items_view items.now) }
+{
+    let Some((item, others)) = items.split_first() else {
+        return false;
+    };
+    is_no_list(others) && is_all(item)
+}
+
+/// Whether it is the list of `All`.
+fn asks_dry_run(member: Option<&Value>) -> bool
+    ensures { result ≡ asks_dry_run (option_map (λ v. view v.now) member.entry) }
+{
+    let Some(value) = member else {
+        return false;
+    };
+    match value {
+        Value::Array(items) => are_all(items),
+        _ => false,
+    }
+}
+
+/// Whether `dryRun` may stand in options so.
+fn may_stand(is_lenient: bool, dry_run: Option<&Value>) -> bool
+    ensures { result ≡ may_stand is_lenient (option_map (λ v. view v.now) dry_run.entry) }
+{
+    if is_lenient {
+        return is_blank(dry_run) || asks_dry_run(dry_run);
+    }
+    is_blank(dry_run)
 }
 
 /// The text of a member; none where it is absent, null or the empty text.
@@ -84,24 +127,45 @@ fn preconditions_in(alloc: Global, member: Option<&Value>) -> Result<Option<u64>
     }
 }
 
-fn options_in(alloc: Global, members: &Map<String, Value>) -> Result<Option<u64>, CallError>
-    ensures { Returns (λ v. v) result (options_in (Some (members_view members.now.entries))) }
+fn options_in(
+    alloc: Global,
+    is_lenient: bool,
+    members: &Map<String, Value>,
+) -> Result<Option<u64>, CallError>
+    ensures { Returns (λ v. v) result (options_in is_lenient (Some (members_view members.now.entries))) }
 {
-    if !is_blank(member(members, "dryRun")) {
+    if !may_stand(is_lenient, member(members, "dryRun")) {
         return Err(bad_options(alloc));
     }
     preconditions_in(alloc, member(members, "preconditions"))
 }
 
-/// The version that a deletion's body asks for, if any.
-pub fn validate_options(alloc: Global, body: Option<&Body>) -> Result<Option<u64>, CallError>
-    ensures { Returns (λ v. v) result (options_validated (option_map (λ b. body_seen b.now) body.entry)) }
+/// The version that the body of a deletion asks for, if any. Of a type that clients discover its `dryRun` may be `["All"]`.
+pub fn validate_options(
+    alloc: Global,
+    served: &Served,
+    body: Option<&Body>,
+) -> Result<Option<u64>, CallError>
+    ensures { Returns (λ v. v) result (options_validated (types.served served.now).is_discovered (option_map (λ b. body_seen b.now) body.entry)) }
 {
     let Some(body) = body else {
         return Ok(None);
     };
     match &body.value {
-        Value::Object(members) => options_in(alloc, members),
+        Value::Object(members) => options_in(alloc, served.is_discovered, members),
         _ => Err(bad_options(alloc)),
+    }
+}
+
+/// Whether the body of a deletion asks that nothing be deleted: its `dryRun` is `["All"]` ("Kubernetes API Concepts", "Dry-run").
+pub fn is_dry_deletion(body: Option<&Body>) -> bool
+    ensures { result ≡ is_dry_deletion (option_map (λ b. body_seen b.now) body.entry) }
+{
+    let Some(body) = body else {
+        return false;
+    };
+    match &body.value {
+        Value::Object(members) => asks_dry_run(member(members, "dryRun")),
+        _ => false,
     }
 }

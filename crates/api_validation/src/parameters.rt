@@ -1,10 +1,16 @@
 //! The parameters of a call, and the refusal of a bad one. They are read in the crate `params`.
 
+ghost use Rattle.api_types.specs.Served as types;
+ghost use Rattle.params.specs.Lenient.{pairs_read};
+ghost use Rattle.params.specs.Query.{pairs_in};
+ghost use Rattle.params.specs.Reading.{params_of};
+ghost use Rattle.params.specs.Views as params;
 ghost use Rattle.params.specs.Views.{values_of};
-ghost use Rattle.api_validation.specs.Parameters.{bad_parameter, parameters_validated};
+ghost use Rattle.api_validation.specs.Parameters.{OthersAreReadByWords, WordsAreReadOnEach, bad_parameter, parameters_for};
 ghost use Rattle.api_request.specs.Views.{Returns, Refuses};
 
 use api_request::{CallError, Reason};
+use api_types::Served;
 use params::{Asked, BAD_MANAGER, Parameter, Params, ParamsFault};
 use std::alloc::Global;
 
@@ -21,13 +27,40 @@ fn bad_parameter(alloc: Global, parameter: Parameter) -> CallError
     }
 }
 
-/// The parameters of a call.
-pub fn read_parameters(alloc: Global, asked: Asked, query: &[u8]) -> Result<Params, CallError>
-    ensures { Returns values_of result (parameters_validated asked query.now) }
+/// The parameters of a query, as they are read of the type.
+fn read_for(
+    alloc: Global,
+    served: &Served,
+    asked: Asked,
+    query: &[u8],
+) -> Result<Params, ParamsFault>
+    ensures { params.Returns values_of result (params_of asked (pairs_read (types.served served.now).is_discovered (pairs_in query.now))) }
 {
-    match Params::read(alloc, asked, query) {
+    if served.is_discovered {
+        Params::read_leniently(alloc, asked, query)
+    } else {
+        Params::read(alloc, asked, query)
+    }
+}
+
+/// The parameters of a call on a type; of one that clients discover, the query is read leniently.
+pub fn read_parameters(
+    alloc: Global,
+    served: &Served,
+    asked: Asked,
+    query: &[u8],
+) -> Result<Params, CallError>
+    ensures { Returns values_of result (parameters_for (types.served served.now) asked query.now) }
+{
+    match read_for(alloc, served, asked, query) {
         Ok(params) => Ok(params),
         Err(ParamsFault::Bad(parameter)) => Err(bad_parameter(alloc, parameter)),
         Err(ParamsFault::Memory) => Err(CallError::Memory),
     }
 }
+
+/// Of a type that clients don't discover a query is read word for word, and what is said so is said on each type.
+pub fn words_are_read()
+    ensures others { OthersAreReadByWords }
+    ensures each { WordsAreReadOnEach }
+{}

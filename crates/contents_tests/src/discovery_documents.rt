@@ -84,6 +84,7 @@ fn copy_of(alloc: Global, one: &Served) -> Result<Served, AllocError> {
         kind: one.kind.clone()?,
         plural: one.plural.clone()?,
         schema: schema_copy(alloc, &one.schema)?,
+        is_discovered: one.is_discovered,
     })
 }
 
@@ -108,7 +109,7 @@ impl Answers for Documents {
         match discover(alloc, &self.types, method, path)? {
             None => Ok(String::from_str(alloc, "none")?),
             Some(Discovered::OtherMethod) => Ok(String::from_str(alloc, "other method")?),
-            Some(Discovered::Shown(text)) => Ok(String::from_str(alloc, str::from_utf8(&text)?)?),
+            Some(Discovered::Shown(text)) => Ok(text),
         }
     }
 }

@@ -5,6 +5,7 @@ use Rattle.std.specs.Str.{bytes_eq}
 use Rattle.json.specs.Json.{Json}
 use Rattle.json.specs.Print.{print}
 use Rattle.json.specs.Tree.{json_tokens}
+use Rattle.api_types.specs.Discovered.{are_discovered}
 use Rattle.api_types.specs.TypesFile.{ServedShape}
 use Rattle.discovery.specs.Groups.{group_version}
 use Rattle.discovery.specs.Documents.{version_info, api_versions, group_list, group, resource_list}
@@ -72,6 +73,16 @@ first_at path (t ∷ ts) = or_else (document_by path t) (first_at path ts)
 -- the document at a path, of these types; nothing in a path is percent-decoded
 abbrev pub document_at : List ServedShape → List ℕ → Option Document
 document_at types path = or_else (fixed_at path) (first_at path types)
+
+-- ---- of a server's types
+
+-- the document at a path, where documents tell clients of these types
+abbrev pub document_in : List ServedShape → List ℕ → Option Document
+document_in types path = if are_discovered types then document_at types path else None
+
+-- its text
+abbrev pub text_in : List ServedShape → List ℕ → Option (List ℕ)
+text_in types path = option_map (text_of types) (document_in types path)
 
 -- ---- requests
 

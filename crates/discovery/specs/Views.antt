@@ -1,4 +1,5 @@
 -- What contracts see of documents and of what a request of one comes to.
+use Rattle.std.specs.Prelude.{string_bytes}
 use Rattle.api_types.specs.ServedViews.{served}
 use Rattle.discovery.specs.Paths as paths
 use Rattle.discovery.specs.declared.document.Document.{Document}
@@ -18,5 +19,5 @@ document_of (document.OfVersionOpenApi t) = paths.of_version_open_api (served t.
 
 -- what the code answers
 abbrev pub discovered_of : Discovered → paths.Discovered
-discovered_of (seen.Shown text) = paths.shown text.items
+discovered_of (seen.Shown text) = paths.shown (string_bytes text)
 discovered_of seen.OtherMethod = paths.other_method

@@ -1,5 +1,6 @@
 //! Which path has which document, and the text of each.
-ghost use Rattle.std.specs.Prelude.{OnOk, IfOk, ◌≡◌, ◌++◌, codes, map, option_map};
+ghost use Rattle.std.specs.Prelude.{OnOk, IfOk, ◌≡◌, ◌++◌, [], codes, map, option_map, string_bytes};
+ghost use Rattle.json.specs.Print.{print};
 ghost use Rattle.std.specs.Str.{bytes_eq};
 ghost use Rattle.api_types.specs.ServedViews.{served};
 ghost use Rattle.discovery.specs.Groups.{group_version};
@@ -145,11 +146,22 @@ fn put_document(
     }
 }
 
+/// What was written.
+fn written(writer: Writer) -> String
+    requires { writer.before ≡ [] }
+    ensures { string_bytes result ≡ print writer.tokens }
+{
+    match String::from_utf8(writer.into_inner()) {
+        Ok(text) => text,
+        Err(_) => unreachable!(),
+    }
+}
+
 /// The text of a document, of these types.
-pub fn text(alloc: Global, types: &[Served], document: Document<'_>) -> Result<Vec<u8>, AllocError>
-    ensures { IfOk result (λ v. v.items ≡ text_of (map served types.now) (document_of document.entry)) }
+pub fn text(alloc: Global, types: &[Served], document: Document<'_>) -> Result<String, AllocError>
+    ensures { IfOk result (λ s. string_bytes s ≡ text_of (map served types.now) (document_of document.entry)) }
 {
     let mut writer = Writer::new(Vec::new(alloc));
     put_document(alloc, &mut writer, types, document)?;
-    Ok(writer.into_inner())
+    Ok(written(writer))
 }

@@ -1,7 +1,8 @@
-//! Discovery: the documents by which a client finds out which types are served, and what a request of one comes to. Types
-//! and their file are `api_types`'; whether documents are served at all is asked by who has a request.
+//! Discovery: the documents by which a client finds out which types are served, and what a request of one comes to. Types,
+//! their file, and whether documents tell of them are `api_types`'; requests are read by who has them.
 //!
-//! Promises: the text of each document is that of its definition, of the types as they are given; a path has at most one.
+//! Promises: the text of each document is that of its definition, of the types as they are given; a path has at most one,
+//! and none where documents don't tell of the types.
 //! Stands on `api_types` for types, on `schema` for schemas, on `json` for writing.
 #![tactic(auto)]
 
@@ -19,5 +20,5 @@ mod status;
 mod type_schema;
 mod version;
 
-pub use discovered::{Discovered, discover};
+pub use discovered::{Discovered, discover, document_in, text_in};
 pub use document::{Document, document_at, text};

@@ -10,6 +10,7 @@ pub mod Going
 pub mod Turning
 pub mod Ticked
 pub mod Lasting
+pub mod OtherDocuments
 pub mod OtherTypes
 pub mod Outcomes
 pub mod Representing

@@ -4,6 +4,7 @@ use Rattle.std.specs.Prelude.{codes, nat_le, option_and_then, option_map, slice_
 use Rattle.std.specs.Char.{is_ascii}
 use Rattle.std.specs.FinMap as fin
 use Rattle.std.specs.List.{list_all}
+use Rattle.std.specs.Bool.{beq}
 use Rattle.std.specs.Str.{bytes_eq}
 use Rattle.std.proofs.lemmas.Bool.{and_parts}
 use Rattle.std.proofs.lemmas.Option.{slice_get-map}
@@ -17,12 +18,16 @@ use Rattle.schema.specs.ObjectShape.{field_of}
 use Rattle.schema.specs.ObjectTest.{is_object_shape}
 use Rattle.api_types.specs.Refusals as schemas
 use Rattle.schema.specs.Shape.{text}
-use Rattle.api_types.specs.TypesFile.{ServedShape, declared_types, is_named, number_from, type_number}
+use Rattle.api_types.specs.Discovered.{declared_after}
+use Rattle.api_types.specs.TypesFile.{ServedShape, is_named, number_from, type_number}
 use Rattle.api_types.proofs.Keeping.{fields_stay}
+use Rattle.api_types.proofs.Marks.{same_mark}
+use Rattle.discovery.specs.Paths.{document_in}
 use Rattle.history.specs.History.{History, last_revision, current_objects}
-use Rattle.api_request.specs.Admit.{Parts, RequestInfo, admitted, has_status, kind_in, kind_with, parts_by, place_admitted, place_by, place_in, place_of, routes}
+use Rattle.api_request.specs.Admit.{Parts, RequestInfo, admitted, has_status, kind_in, kind_with, parts_by, path_admitted, place_by, place_in, place_of, routes}
 use Rattle.api_request.specs.Calls.{Denied, Target}
 use Rattle.verbs.specs.Retyping.{RetypeRefusal, changed_objects, if_declared, if_compatible, if_revisions_left, not_lawful, not_types, retyping, too_few_revisions}
+use Rattle.httpedge.proofs.OtherDocuments.{documents_last, same_document}
 use Rattle.httpedge.specs.SharedViews.{SharedRepresents}
 use Rattle.httpedge.specs.declared.shared.Shared.{Shared}
 use Rattle.api_request.specs.declared.resource.Resource.{Resource}
@@ -50,24 +55,25 @@ same_connections s (Err why) = refl
 abbrev Lasting : Type 0
 Lasting = ServedShape × Bool
 
-abbrev lasting_by : List ℕ → List ℕ → List ℕ → List ℕ → Bool → Lasting
-lasting_by group version kind plural status = (record { group = group; version = version; kind = kind; plural = plural; shape = text }, status)
+abbrev lasting_by : List ℕ → List ℕ → List ℕ → List ℕ → Bool → Bool → Lasting
+lasting_by group version kind plural is_discovered status = (record { group = group; version = version; kind = kind; plural = plural; shape = text; is_discovered = is_discovered }, status)
 
 same_bytes : (a b : List ℕ) → bytes_eq a b ≡ true → b ≡ a
 same_bytes a b is = sym ((bytes_eq-Decides a b).0 is)
 
 one_lasts : (t u : ServedShape) → type_may_become t u ≡ true → lasting u ≡ lasting t
 one_lasts t u is =
-    let group = and_parts (bytes_eq t.group u.group) _ is in
+    let group = and_parts (bytes_eq t.group u.group) _ (and_parts (beq t.is_discovered u.is_discovered) _ is).1 in
     let version = and_parts (bytes_eq t.version u.version) _ group.1 in
     let kind = and_parts (bytes_eq t.kind u.kind) _ version.1 in
     let plural = and_parts (bytes_eq t.plural u.plural) (may_become t.shape u.shape) kind.1 in
     let status = is_some (field_of (codes "status") u.shape) in
-    ap (λ g. lasting_by g u.version u.kind u.plural status) (same_bytes t.group u.group group.0)
-    ∙ ap (λ v. lasting_by t.group v u.kind u.plural status) (same_bytes t.version u.version version.0)
-    ∙ ap (λ k. lasting_by t.group t.version k u.plural status) (same_bytes t.kind u.kind kind.0)
-    ∙ ap (λ p. lasting_by t.group t.version t.kind p status) (same_bytes t.plural u.plural plural.0)
-    ∙ ap (lasting_by t.group t.version t.kind t.plural) (fields_stay t.shape u.shape plural.1 (codes "status"))
+    ap (λ g. lasting_by g u.version u.kind u.plural u.is_discovered status) (same_bytes t.group u.group group.0)
+    ∙ ap (λ v. lasting_by t.group v u.kind u.plural u.is_discovered status) (same_bytes t.version u.version version.0)
+    ∙ ap (λ k. lasting_by t.group t.version k u.plural u.is_discovered status) (same_bytes t.kind u.kind kind.0)
+    ∙ ap (λ p. lasting_by t.group t.version t.kind p u.is_discovered status) (same_bytes t.plural u.plural plural.0)
+    ∙ ap (λ b. lasting_by t.group t.version t.kind t.plural b status) (same_mark t u is)
+    ∙ ap (lasting_by t.group t.version t.kind t.plural t.is_discovered) (fields_stay t.shape u.shape plural.1 (codes "status"))
 
 never : {P : Type 0} → false ≡ true → P
 never is = absurd (true≢false (sym is))
@@ -140,7 +146,12 @@ same_path types others lasts path =
     (then_same (place_by others path) (place_by types path) (first routes path) (λ r. same_place types others lasts r.value (parts_by path r)))
 
 pub same_admitted : (types others : List ServedShape) → LastsIn types others → (method path : List ℕ) (media : Option (List ℕ)) → admitted others method path media ≡ admitted types method path media
-same_admitted types others lasts method path media = ap (λ o. place_admitted o method media) (same_path types others lasts path)
+same_admitted types others lasts method path media =
+    ap (λ o. path_admitted others o method path media) (same_path types others lasts path) ∙ by_place (place_of types path)
+  where
+    by_place : (o : Option RequestInfo) → path_admitted others o method path media ≡ path_admitted types o method path media
+    by_place None = same_document (document_in others path) (document_in types path) method path (documents_last types others lasts path)
+    by_place (Some place) = refl
 
 same_call : (types others : List ServedShape) → LastsIn types others → (request : Request) (rest : List ℕ) → call_in others request rest ≡ call_in types request rest
 same_call types others lasts request rest =
@@ -218,4 +229,4 @@ declared_lawful types others m (Err e) is = isnt_done not_types others is
 
 pub is_lawful : (types others : List ServedShape) (m : History) (file : Data) → retyping types m file ≡ Ok others → types_may_become types others ≡ true
 unfolding retyping
-is_lawful types others m file is = declared_lawful types others m (declared_types file) is
+is_lawful types others m file is = declared_lawful types others m (declared_after types file) is

@@ -108,7 +108,7 @@ peer_goes _ = false
 
 -- ---- what it adds
 
--- what stays of a type that is served, whatever becomes of its lists and maps: its names, and whether it has a status
+-- what stays of a type that is served, whatever becomes of its lists and maps: its names, whether it is discovered, and whether it has a status
 abbrev pub lasting : ServedShape → ServedShape × Bool
 lasting t = (record t { shape = text }, is_some (field_of (codes "status") t.shape))
 

@@ -14,7 +14,7 @@ use Rattle.lists.specs.Body.{continued_at}
 use Rattle.lists.specs.TokenLaws.{CanBeListed, next_pairs, token_after}
 use Rattle.lists.proofs.Tokens.{query_is_read}
 use Rattle.api_request.specs.declared.method.Method.TheVariants.{Get}
-use Rattle.api_request.specs.Admit.{RequestInfo, admitted, place_admitted}
+use Rattle.api_request.specs.Admit.{RequestInfo, admitted, path_admitted, place_admitted}
 use Rattle.api_request.specs.Calls.{Call, Target}
 use Rattle.api_validation.specs.Parameters.{read_or_refused}
 use Rattle.wire.specs.Heads.{max_head}
@@ -55,12 +55,12 @@ module _ (ask : RequestsAsk) (types : List ServedShape) (task : Task) (is : IsTa
   call_with query = record { target = asked_of; query = query; body = None }
 
   got : (namespace : Option (List ℕ))
-      → place_admitted (Some (record { resource = resource_for namespace; kind = task.settings.kind; namespace = namespace; name = None })) (codes "GET") None ≡ Ok (record asked_of { namespace = namespace })
+      → place_admitted (record { resource = resource_for namespace; kind = task.settings.kind; namespace = namespace; name = None }) (codes "GET") None ≡ Ok (record asked_of { namespace = namespace })
   got None = refl
   got (Some namespace) = refl
 
   is_admitted : admitted types (codes "GET") (path_of (wanted_by task)) None ≡ Ok asked_of
-  is_admitted = ap (λ (o : Option RequestInfo). place_admitted o (codes "GET") None) (path_reaches types task is) ∙ got task.settings.namespace
+  is_admitted = ap (λ (o : Option RequestInfo). path_admitted types o (codes "GET") (path_of (wanted_by task)) None) (path_reaches types task is) ∙ got task.settings.namespace
 
   visible : (query : List ℕ) → All IsVisible query → All IsVisible (path_of (wanted_by task) ++ 63 ∷ query)
   visible query all =

@@ -3,5 +3,6 @@ pub mod Query
 pub mod Values
 pub mod Texts
 pub mod Reading
+pub mod Lenient
 pub mod Views
 pub mod FaultViews

@@ -9,12 +9,14 @@
 #![tactic(auto)]
 
 mod fault;
+mod lenient;
 mod parameter;
 mod params;
 mod query;
 mod texts;
 
 pub use fault::ParamsFault;
+pub use lenient::lenient_reads_all;
 pub use parameter::Parameter;
-pub use params::{Asked, Params, Token, VersionMatch, Watch};
+pub use params::{Asked, Params, Token, VersionMatch, Watch, is_dry_run};
 pub use texts::BAD_MANAGER;

@@ -2,6 +2,7 @@
 //! `query`.
 
 ghost use Rattle.std.specs.Prelude.{◌≡◌, IfOk, option_map, string_bytes};
+ghost use Rattle.params.specs.Lenient.{is_dry_run, lenient};
 ghost use Rattle.params.specs.Query.{pairs_in};
 ghost use Rattle.params.specs.Reading.{applied, deleted, got, is_any, listed, listed_or_watched, match_fits, params_of, together, token_fits, watched, written};
 ghost use Rattle.params.specs.Texts.{ReadsBack, token_text};
@@ -229,6 +230,28 @@ fn deleted(alloc: Global, query: &Query) -> Result<Params, ParamsFault>
     Ok(Params::none(alloc))
 }
 
+/// The parameters that what is asked knows.
+fn params_of(alloc: Global, asked: Asked, query: &Query) -> Result<Params, ParamsFault>
+    ensures { Returns values_of result (params_of asked (pairs_of query.now.pairs.items)) }
+{
+    match asked {
+        Asked::Get => got(alloc, query),
+        Asked::List => listed_or_watched(alloc, query),
+        Asked::Post | Asked::Put => written(alloc, query),
+        Asked::Apply => applied(alloc, query),
+        Asked::Delete => deleted(alloc, query),
+    }
+}
+
+/// Whether a query asks that nothing be stored: its `dryRun` is `All` (Kubernetes documentation, "Kubernetes API Concepts",
+/// "Dry-run").
+pub fn is_dry_run(alloc: Global, query: &[u8]) -> Result<bool, AllocError>
+    ensures { IfOk result (λ b. b ≡ is_dry_run (pairs_in query.now)) }
+{
+    let query = Query::read(alloc, query)?;
+    Ok(query.is_dry_run())
+}
+
 impl Params {
     /// What a query without parameters says.
     fn none(alloc: Global) -> Params
@@ -255,12 +278,15 @@ impl Params {
         ensures { Returns values_of result (params_of asked (pairs_in query.now)) }
     {
         let query = Query::read(alloc, query)?;
-        match asked {
-            Asked::Get => got(alloc, &query),
-            Asked::List => listed_or_watched(alloc, &query),
-            Asked::Post | Asked::Put => written(alloc, &query),
-            Asked::Apply => applied(alloc, &query),
-            Asked::Delete => deleted(alloc, &query),
-        }
+        params_of(alloc, asked, &query)
+    }
+
+    /// Reads them as `read` does of the query that is meant: `Ignore` and `Warn` of `fieldValidation` are `Strict`, `True` and
+    /// `False` are the truth values, and `All` of `dryRun` is absence (`is_dry_run` tells it).
+    pub fn read_leniently(alloc: Global, asked: Asked, query: &[u8]) -> Result<Params, ParamsFault>
+        ensures { Returns values_of result (params_of asked (lenient (pairs_in query.now))) }
+    {
+        let query = Query::read(alloc, query)?.lenient(alloc)?;
+        params_of(alloc, asked, &query)
     }
 }

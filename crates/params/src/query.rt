@@ -1,11 +1,13 @@
 //! The pairs of a query, and what single parameters say. Which go together stands in `params`.
 
 ghost use Rattle.std.specs.Prelude.{◌≡◌, IfOk, ⊤, option_map, string_bytes};
+ghost use Rattle.params.specs.Lenient.{is_dry_run, lenient};
 ghost use Rattle.params.specs.Query.{first_at, pairs_in, value_of};
 ghost use Rattle.params.specs.Reading.{absent_in, manager_in, manager_or, match_in, number_in, selector_in, strict_in, token_in, truth_in, version_in};
 ghost use Rattle.params.specs.Views.{Returns, pairs_of, token_view};
 
 use crate::fault::ParamsFault;
+use crate::lenient::pair_meant;
 use crate::parameter::Parameter;
 use crate::params::{Token, VersionMatch};
 use crate::texts::{is_manager, match_of, token_of, truth_of};
@@ -41,12 +43,38 @@ fn pairs_in(alloc: Global, query: &[u8]) -> Result<Vec<(String, String)>, AllocE
     Ok(pairs)
 }
 
+/// The pairs that are meant by these.
+fn lenient(alloc: Global, pairs: Vec<(String, String)>) -> Result<Vec<(String, String)>, AllocError>
+    ensures { IfOk result (λ meant. pairs_of meant.items ≡ lenient (pairs_of pairs.items)) }
+{
+    let mut meant = Vec::new(alloc);
+    for pair in pairs {
+        meant.push(pair_meant(alloc, pair)?)?;
+    }
+    Ok(meant)
+}
+
 impl Query {
     pub(crate) fn read(alloc: Global, query: &[u8]) -> Result<Query, AllocError>
         ensures { IfOk result (λ q. pairs_of q.pairs.items ≡ pairs_in query.now) }
     {
         let pairs = pairs_in(alloc, query)?;
         Ok(Query { pairs })
+    }
+
+    /// The query that is meant by this one.
+    pub(crate) fn lenient(self, alloc: Global) -> Result<Query, AllocError>
+        ensures { IfOk result (λ q. pairs_of q.pairs.items ≡ lenient (pairs_of self.pairs.items)) }
+    {
+        let pairs = lenient(alloc, self.pairs)?;
+        Ok(Query { pairs })
+    }
+
+    /// Whether it asks that nothing be stored.
+    pub(crate) fn is_dry_run(&self) -> bool
+        ensures { result ≡ is_dry_run (pairs_of self.now.pairs.items) }
+    {
+        self.value(Parameter::DryRun) == "All"
     }
 
     fn value(&self, parameter: Parameter) -> &str

@@ -16,6 +16,7 @@ use Rattle.clap.specs.declared.builder.command.Command.TheViews.{out-Command}
 use Rattle.clap.specs.declared.parser.matches.ArgMatches.{ArgMatches}
 use Rattle.clap.proofs.CallerLemmas.{required_in_chain}
 use Rattle.clap.proofs.WalkLemmas.{first_value-rows, one_text-rows}
+use Rattle.programs.specs.Commands.{IsFlag}
 use Rattle.programs.specs.Numbers.{IsNumber, IsNumberBy, IsNumberIn}
 
 -- the name of an option begins as none that `clap` adds
@@ -119,3 +120,6 @@ pub text_or : (o : Option (Bor Text)) (r d : Bor Text) (first : Option Text) (de
     → r.now ≡ unwrap_or first default
 text_or None r d first default read is at = ap (λ (s : Bor Text). s.now) is ∙ at ∙ ap (λ (f : Option Text). unwrap_or f default) read
 text_or (Some x) r d first default read is at = ap (λ (s : Bor Text). s.now) is ∙ ap (λ (f : Option Text). unwrap_or f default) read
+
+pub flag_by : (text read : Option Text) (given : Bool) → text ≡ read → IsFlag text given → IsFlag read given
+flag_by text read given same flag = subst (λ (o : Option Text). IsFlag o given) same flag

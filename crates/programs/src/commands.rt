@@ -1,10 +1,10 @@
-//! What the command lines of all programs share: the version, the help, and options that take texts. Options that take
+//! What the command lines of all programs share: the version, the help, flags, and options that take texts. Options that take
 //! numbers stand in `numbers`.
 ghost use Rattle.std.specs.Prelude.{◌≡◌, [], false, true};
 ghost use Rattle.clap.specs.Built.{FitsChain, IsAuto, TakesValue};
 ghost use Rattle.clap.specs.Words.{app_of, args_of, groups_of, rule_of};
 ghost use Rattle.clap.specs.declared.builder.command.Command.TheViews.{out-Command as fields_of};
-ghost use Rattle.programs.specs.Commands.{file_option, program, required_option, text_option};
+ghost use Rattle.programs.specs.Commands.{file_option, flag_option, program, required_option, text_option};
 
 use clap::{Arg, ArgAction, Command};
 use std::alloc::Global;
@@ -15,8 +15,15 @@ pub const TYPES: &str = "types";
 /// Its help.
 pub const TYPES_HELP: &str = "The types to serve, one JSON object {\"types\":[..]}";
 
+/// The option by which documents tell clients of the types.
+pub const DISCOVERY: &str = "discovery";
+
+/// Its help.
+pub const DISCOVERY_HELP: &str =
+    "Serve the documents of discovery of the types, at /version, /api, /apis and /openapi/v3";
+
 /// What `--version` prints after the name of each program.
-const VERSION: &str = "1.0.0";
+const VERSION: &str = "1.1.0";
 
 /// A program's command before its options: `about` says in a line what it does, and `notes` end its help.
 pub fn program<'a>(alloc: Global, name: &'a str, about: &'a str, notes: &'a str) -> Command<'a>
@@ -77,4 +84,16 @@ pub fn file_option<'a>(alloc: Global, name: &'a str, help: &'a str) -> Arg<'a>
         help,
     };
     required_option(alloc, option)
+}
+
+/// `--<name>`
+pub fn flag_option<'a>(alloc: Global, name: &'a str, help: &'a str) -> Arg<'a>
+    ensures id { result.id ≡ name.entry }
+    ensures rule { rule_of result ≡ flag_option name.entry.now }
+    ensures fits { (name.entry.now ≡ [] → ⊥) → (IsAuto result → ⊥) → FitsChain result }
+{
+    Arg::new(alloc, name)
+        .long(name)
+        .help(help)
+        .action(ArgAction::SetTrue)
 }

@@ -17,10 +17,11 @@ mod types_refusal;
 
 pub use arguments::read_arguments;
 pub use commands::{
-    TYPES, TYPES_HELP, TextOption, file_option, program, required_option, text_option,
+    DISCOVERY, DISCOVERY_HELP, TYPES, TYPES_HELP, TextOption, file_option, flag_option, program,
+    required_option, text_option,
 };
 pub use numbers::{NumberOption, count_of, number, number_option, port_of};
 pub use resource::{Resource, resource_in};
 pub use run_fault::{RunFault, WRONG_USAGE, end_with, unread_path};
-pub use types_file::{read_types, types_in, types_text};
+pub use types_file::{discovered_if, read_types, types_in, types_text};
 pub use types_refusal::{RefusedTypes, TypesRefusal};

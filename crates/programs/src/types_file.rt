@@ -1,5 +1,7 @@
 //! Types files: the types that a file declares, or the fault that names the file. Its text is read in the crate `api_types`.
-ghost use Rattle.std.specs.Prelude.{◌≡◌, ℕ, List, IfOk, IfSome, None, Err};
+ghost use Rattle.std.specs.Prelude.{◌≡◌, ℕ, List, IfOk, IfSome, None, Err, if◌then◌else◌, map};
+ghost use Rattle.api_types.specs.Discovered.{discovered};
+ghost use Rattle.api_types.specs.Served.{types_view};
 ghost use Rattle.api_types.specs.Views.{FailsWith};
 ghost use Rattle.api_types.specs.TypesFile.{declared_types};
 ghost use Rattle.serde_json.specs.Read.{read as read_json};
@@ -135,6 +137,16 @@ pub fn types_text<R: Files + AllocGlobal>(rt: &R, path: &str) -> Result<String, 
             let path = unread_path(rt.alloc(), path, &error)?;
             Err(RunFault::TypesFile(path, error))
         }
+    }
+}
+
+/// The types; where that is asked for, documents tell clients of them.
+pub fn discovered_if(is_asked: bool, types: Types) -> Types
+    ensures { types_view result ≡ (if is_asked then map discovered (types_view types) else types_view types) }
+{
+    match is_asked {
+        true => types.with_discovery(),
+        false => types,
     }
 }
 

@@ -20,12 +20,12 @@ module _ (name : Text) where
   is_free = refl
 
 abbrev pub names : List Text
-names = codes "types" ∷ codes "page" ∷ codes "selector" ∷ codes "namespace" ∷ codes "type" ∷ codes "label" ∷ []
+names = codes "types" ∷ codes "page" ∷ codes "selector" ∷ codes "namespace" ∷ codes "type" ∷ codes "label" ∷ codes "discovery" ∷ []
 
-pub names_are : {types page selector namespace type_name label : Text} → types ≡ codes "types" → page ≡ codes "page" → selector ≡ codes "selector"
-    → namespace ≡ codes "namespace" → type_name ≡ codes "type" → label ≡ codes "label"
-    → types ∷ page ∷ selector ∷ namespace ∷ type_name ∷ label ∷ [] ≡ names
-names_are a b c d e f = rw (a, b, c, d, e, f) refl
+pub names_are : {types page selector namespace type_name label discovery : Text} → types ≡ codes "types" → page ≡ codes "page" → selector ≡ codes "selector"
+    → namespace ≡ codes "namespace" → type_name ≡ codes "type" → label ≡ codes "label" → discovery ≡ codes "discovery"
+    → types ∷ page ∷ selector ∷ namespace ∷ type_name ∷ label ∷ discovery ∷ [] ≡ names
+names_are a b c d e f g = rw (a, b, c, d, e, f, g) refl
 
 pub names_differ : differ names ≡ true
 unfolding clap_on_literals

@@ -48,13 +48,16 @@ type_own = ((λ e. absurd (omega arith)), (λ e. absurd (omega arith)), (λ e. a
 pub label_own : IsOwn (codes "label")
 label_own = ((λ e. absurd (omega arith)), (λ e. absurd (omega arith)), (λ e. absurd (omega arith)))
 
-abbrev pub names : List Text
-names = codes "types" ∷ codes "script" ∷ codes "page" ∷ codes "selector" ∷ codes "namespace" ∷ codes "type" ∷ codes "label" ∷ []
+pub discovery_own : IsOwn (codes "discovery")
+discovery_own = ((λ e. absurd (omega arith)), (λ e. absurd (omega arith)), (λ e. absurd (omega arith)))
 
-pub names_are : {types script page selector namespace type_name label : Text} → types ≡ codes "types" → script ≡ codes "script" → page ≡ codes "page" → selector ≡ codes "selector"
-    → namespace ≡ codes "namespace" → type_name ≡ codes "type" → label ≡ codes "label"
-    → types ∷ script ∷ page ∷ selector ∷ namespace ∷ type_name ∷ label ∷ [] ≡ names
-names_are a b c d e f g = rw (a, b, c, d, e, f, g) refl
+abbrev pub names : List Text
+names = codes "types" ∷ codes "script" ∷ codes "page" ∷ codes "selector" ∷ codes "namespace" ∷ codes "type" ∷ codes "label" ∷ codes "discovery" ∷ []
+
+pub names_are : {types script page selector namespace type_name label discovery : Text} → types ≡ codes "types" → script ≡ codes "script" → page ≡ codes "page" → selector ≡ codes "selector"
+    → namespace ≡ codes "namespace" → type_name ≡ codes "type" → label ≡ codes "label" → discovery ≡ codes "discovery"
+    → types ∷ script ∷ page ∷ selector ∷ namespace ∷ type_name ∷ label ∷ discovery ∷ [] ≡ names
+names_are a b c d e f g h = rw (a, b, c, d, e, f, g, h) refl
 
 pub names_differ : differ names ≡ true
 unfolding clap_on_literals

@@ -7,7 +7,7 @@ use Rattle.clap.specs.Walk.{Row}
 use Rattle.clap.specs.Words.{App, HasKind, Kinds, Text, app_of, first_of, with_rule}
 use Rattle.clap.specs.declared.builder.command.Command.{Command}
 use Rattle.clap.specs.declared.parser.matches.ArgMatches.{ArgMatches}
-use Rattle.programs.specs.Commands.{file_option, program, text_option}
+use Rattle.programs.specs.Commands.{file_option, flag_option, program, text_option}
 use Rattle.programs.specs.Numbers.{IsNumberOr, number_option}
 use Rattle.programs.specs.Resources.{resource_in}
 use Rattle.programs.specs.declared.run_fault.RunFault.TheVariants as run
@@ -28,10 +28,14 @@ abbrev with_files : App → App
 with_files app = with_rule (with_rule app (file_option (codes "types"))) (file_option (codes "script"))
 
 -- which objects the client has, and what it counts
-abbrev with_wanted : App → App
-with_wanted app =
+abbrev with_client : App → App
+with_client app =
     with_rule (with_rule (with_rule (with_rule (with_rule app (number_option (Some default_page) (codes "page"))) (text_option (codes "selector"))) (text_option (codes "namespace"))) (text_option (codes "type")))
     (text_option (codes "label"))
+
+-- the same, and whether documents tell of the types
+abbrev with_wanted : App → App
+with_wanted app = with_rule (with_client app) (flag_option (codes "discovery"))
 
 -- the command of the program with this name
 abbrev pub player : Text → App

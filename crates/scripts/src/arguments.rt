@@ -2,7 +2,8 @@
 //! the crate `programs`.
 ghost use Rattle.std.specs.Prelude.{◌≡◌, ◌≤◌, [], IfOk, IfErr, Some, None, codes, map, option_map, unwrap_or};
 ghost use Rattle.clap.specs.Matches.{first_value, found_of};
-ghost use Rattle.clap.specs.Words.{fault_of, first_of, matches_of};
+ghost use Rattle.clap.specs.Words.{fault_of, first_of, matches_of, one_of};
+ghost use Rattle.programs.specs.Commands.{IsFlag};
 ghost use Rattle.programs.specs.Numbers.{IsNumberOr};
 ghost use Rattle.programs.specs.Resources.{resource_in};
 ghost use Rattle.programs.specs.Views.{resource_of};
@@ -12,8 +13,8 @@ ghost use Rattle.scripts.specs.declared.program_fault.ProgramFault.TheVariants.{
 use crate::program_fault::ProgramFault;
 use clap::{ArgMatches, Command};
 use programs::{
-    NumberOption, Resource, TYPES, TYPES_HELP, TextOption, file_option, number, number_option,
-    program, resource_in, text_option,
+    DISCOVERY, DISCOVERY_HELP, NumberOption, Resource, TYPES, TYPES_HELP, TextOption, file_option,
+    flag_option, number, number_option, program, resource_in, text_option,
 };
 use std::alloc::{AllocError, Global};
 use std::convert::AsStr;
@@ -76,6 +77,8 @@ pub struct PlayerOptions<'a> {
     /// The path of the script.
     pub script: &'a str,
     pub client: ClientOptions<'a>,
+    /// Whether documents tell clients of the types.
+    pub discovery: bool,
 }
 
 /// What the arguments of a program that reads a script from its standard input name.
@@ -84,6 +87,8 @@ pub struct PipeOptions<'a> {
     /// The path of the types file.
     pub types: &'a str,
     pub client: ClientOptions<'a>,
+    /// Whether documents tell clients of the types.
+    pub discovery: bool,
 }
 
 /// What the arguments of a program ask of its client.
@@ -111,7 +116,8 @@ fn pipe_command<'a>(alloc: Global, asked: Player<'a>) -> Result<Command<'a>, All
         .arg(text_option(alloc, SELECTOR))?
         .arg(text_option(alloc, NAMESPACE))?
         .arg(text_option(alloc, TYPE))?
-        .arg(text_option(alloc, LABEL))
+        .arg(text_option(alloc, LABEL))?
+        .arg(flag_option(alloc, DISCOVERY, DISCOVERY_HELP))
 }
 
 fn player_command<'a>(alloc: Global, asked: Player<'a>) -> Result<Command<'a>, AllocError>
@@ -124,7 +130,8 @@ fn player_command<'a>(alloc: Global, asked: Player<'a>) -> Result<Command<'a>, A
         .arg(text_option(alloc, SELECTOR))?
         .arg(text_option(alloc, NAMESPACE))?
         .arg(text_option(alloc, TYPE))?
-        .arg(text_option(alloc, LABEL))
+        .arg(text_option(alloc, LABEL))?
+        .arg(flag_option(alloc, DISCOVERY, DISCOVERY_HELP))
 }
 
 /// How many objects a page has at most, of what the option may be.
@@ -159,6 +166,7 @@ pub fn options<'a, S: AsStr>(
     ensures namespace { IfOk result (λ o. option_map (λ s. s.now) o.client.namespace ≡ first_of (codes "namespace") (matches_of (player asked.entry.name.now) (map S.text arguments.entry.now))) }
     ensures resource { IfOk result (λ o. resource_in (unwrap_or (first_of (codes "type") (matches_of (player asked.entry.name.now) (map S.text arguments.entry.now))) default_type) ≡ Some (resource_of o.client.resource)) }
     ensures label { IfOk result (λ o. o.client.label.now ≡ unwrap_or (first_of (codes "label") (matches_of (player asked.entry.name.now) (map S.text arguments.entry.now))) default_label) }
+    ensures discovery { IfOk result (λ o. IsFlag (one_of (codes "discovery") (matches_of (player asked.entry.name.now) (map S.text arguments.entry.now))) o.discovery) }
     ensures refused { RefusedBy (fault_of (player asked.entry.name.now) (map S.text arguments.entry.now)) (matches_of (player asked.entry.name.now) (map S.text arguments.entry.now)) result }
 {
     let matches = player_command(alloc, asked)?.try_get_matches_from(arguments)?;
@@ -174,6 +182,7 @@ pub fn options<'a, S: AsStr>(
             resource,
             label: matches.get_str(LABEL.name).unwrap_or(DEFAULT_LABEL),
         },
+        discovery: matches.get_flag(DISCOVERY),
     })
 }
 
@@ -189,6 +198,7 @@ pub fn pipe_options<'a, S: AsStr>(
     ensures namespace { IfOk result (λ o. option_map (λ s. s.now) o.client.namespace ≡ first_of (codes "namespace") (matches_of (pipe_app asked.entry.name.now) (map S.text arguments.entry.now))) }
     ensures resource { IfOk result (λ o. resource_in (unwrap_or (first_of (codes "type") (matches_of (pipe_app asked.entry.name.now) (map S.text arguments.entry.now))) default_type) ≡ Some (resource_of o.client.resource)) }
     ensures label { IfOk result (λ o. o.client.label.now ≡ unwrap_or (first_of (codes "label") (matches_of (pipe_app asked.entry.name.now) (map S.text arguments.entry.now))) default_label) }
+    ensures discovery { IfOk result (λ o. IsFlag (one_of (codes "discovery") (matches_of (pipe_app asked.entry.name.now) (map S.text arguments.entry.now))) o.discovery) }
     ensures refused { RefusedBy (fault_of (pipe_app asked.entry.name.now) (map S.text arguments.entry.now)) (matches_of (pipe_app asked.entry.name.now) (map S.text arguments.entry.now)) result }
 {
     let matches = pipe_command(alloc, asked)?.try_get_matches_from(arguments)?;
@@ -203,5 +213,6 @@ pub fn pipe_options<'a, S: AsStr>(
             resource,
             label: matches.get_str(LABEL.name).unwrap_or(DEFAULT_LABEL),
         },
+        discovery: matches.get_flag(DISCOVERY),
     })
 }

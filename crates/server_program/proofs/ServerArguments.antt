@@ -1,9 +1,9 @@
 -- What a parse by the command of `ssa-server` gives.
-use Rattle.std.proofs.Common.{◌≡◌, ◌∷◌, [], List, Bool, true, arith, codes, refl, subst, Option}
+use Rattle.std.proofs.Common.{◌≡◌, ◌∷◌, [], List, true, arith, codes, refl}
 use Rattle.clap.specs.Words.{Text, is_simple}
 use Rattle.clap.proofs.OnLiterals.{clap_on_literals}
 use Rattle.programs.proofs.OptionValues.{IsOwn, differ}
-use Rattle.server_program.specs.ServerCommand.{IsFlag, ssa_server}
+use Rattle.server_program.specs.ServerCommand.{ssa_server}
 
 pub is_plain : is_simple ssa_server ≡ true
 unfolding clap_on_literals
@@ -39,17 +39,19 @@ record_own = ((λ e. absurd (omega arith)), (λ e. absurd (omega arith)), (λ e.
 pub objects_own : IsOwn (codes "objects")
 objects_own = ((λ e. absurd (omega arith)), (λ e. absurd (omega arith)), (λ e. absurd (omega arith)))
 
-abbrev pub names : List Text
-names = codes "types" ∷ codes "port" ∷ codes "keep" ∷ codes "pump" ∷ codes "serve" ∷ codes "concurrent" ∷ codes "patience" ∷ codes "log" ∷ codes "record" ∷ codes "objects" ∷ []
+pub discovery_own : IsOwn (codes "discovery")
+discovery_own = ((λ e. absurd (omega arith)), (λ e. absurd (omega arith)), (λ e. absurd (omega arith)))
 
-pub names_are : {types port keep pump serve flag patience log recorded objects : Text} → types ≡ codes "types" → port ≡ codes "port" → keep ≡ codes "keep" → pump ≡ codes "pump"
+abbrev pub names : List Text
+names =
+    codes "types" ∷ codes "port" ∷ codes "keep" ∷ codes "pump" ∷ codes "serve" ∷ codes "concurrent" ∷ codes "patience" ∷ codes "log" ∷ codes "record" ∷ codes "objects" ∷ codes "discovery" ∷ []
+
+pub names_are : {types port keep pump serve flag patience log recorded objects discovery : Text} → types ≡ codes "types" → port ≡ codes "port" → keep ≡ codes "keep" → pump ≡ codes "pump"
     → serve ≡ codes "serve" → flag ≡ codes "concurrent" → patience ≡ codes "patience"
-    → log ≡ codes "log" → recorded ≡ codes "record" → objects ≡ codes "objects" → types ∷ port ∷ keep ∷ pump ∷ serve ∷ flag ∷ patience ∷ log ∷ recorded ∷ objects ∷ [] ≡ names
-names_are t p k u s f a l r o = rw (t, p, k, u, s, f, a, l, r, o) refl
+    → log ≡ codes "log" → recorded ≡ codes "record" → objects ≡ codes "objects" → discovery ≡ codes "discovery"
+    → types ∷ port ∷ keep ∷ pump ∷ serve ∷ flag ∷ patience ∷ log ∷ recorded ∷ objects ∷ discovery ∷ [] ≡ names
+names_are t p k u s f a l r o d = rw (t, p, k, u, s, f, a, l, r, o, d) refl
 
 pub names_differ : differ names ≡ true
 unfolding clap_on_literals
 names_differ = refl
-
-pub flag_by : (text read : Option Text) (given : Bool) → text ≡ read → IsFlag text given → IsFlag read given
-flag_by text read given same flag = subst (λ (o : Option Text). IsFlag o given) same flag

@@ -1,15 +1,11 @@
--- The arguments that `ssa-server` takes (its command, as `clap` reads it): `--types FILE`, which is required, numbers, flags, and the paths of a record and of the first objects.
-use Rattle.std.specs.Prelude.{◌≡◌, Bool, Option, Some, None, true, false, codes, is_some}
+-- The arguments that `ssa-server` takes (its command, as `clap` reads it): `--types FILE`, which is required, numbers, flags, the paths of a record and of the first objects.
+use Rattle.std.specs.Prelude.{◌≡◌, Some, true, codes, is_some}
 use Rattle.clap.specs.Built.{IsParsedFrom}
-use Rattle.clap.specs.Words.{App, Rule, Text, app_of, first_value, found_of, new_rule, with_rule}
-use Rattle.clap.specs.declared.builder.action.ArgAction.TheVariants.{SetTrue}
+use Rattle.clap.specs.Words.{App, app_of, first_value, found_of, with_rule}
 use Rattle.clap.specs.declared.builder.command.Command.{Command}
 use Rattle.clap.specs.declared.parser.matches.ArgMatches.{ArgMatches}
-use Rattle.programs.specs.Commands.{file_option, program, text_option}
+use Rattle.programs.specs.Commands.{file_option, flag_option, program, text_option}
 use Rattle.programs.specs.Numbers.{number_option}
-
-abbrev pub flag_option : Text → Rule
-flag_option name = record (new_rule name) { long = Some name; action = Some SetTrue }
 
 abbrev with_numbers : App → App
 with_numbers app =
@@ -21,14 +17,10 @@ with_modes app = with_rule (with_rule app (flag_option (codes "concurrent"))) (n
 
 abbrev pub ssa_server : App
 ssa_server =
-    with_rule (with_rule (with_rule (with_modes (with_numbers (with_rule (program (codes "ssa-server")) (file_option (codes "types"))))) (flag_option (codes "log"))) (text_option (codes "record")))
-    (text_option (codes "objects"))
+    with_rule (with_rule (with_rule (with_rule (with_modes (with_numbers (with_rule (program (codes "ssa-server")) (file_option (codes "types"))))) (flag_option (codes "log"))) (text_option (codes "record")))
+    (text_option (codes "objects"))) (flag_option (codes "discovery"))
 
 -- a command as above, of which each parse has the path of the types file
 pub record IsServerCommand (command : Command) : Type 0 where
   pub app : app_of command ≡ ssa_server
   pub types : (m : ArgMatches) → IsParsedFrom command m → is_some (first_value (found_of m) (codes "types")) ≡ true
-
--- whether a flag is given, as the text of its value tells it
-abbrev pub IsFlag : Option Text → Bool → Type 0
-IsFlag text given = (text ≡ None → given ≡ false) × (text ≡ Some (codes "true") → given ≡ true) × (text ≡ Some (codes "false") → given ≡ false)

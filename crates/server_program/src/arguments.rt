@@ -1,17 +1,17 @@
 //! The command line of `ssa-server`: its options, their numbers and its help. What the programs share stands in the crate
 //! `programs`.
 
-ghost use Rattle.std.specs.Prelude.{◌≡◌, [], IfOk, Some, codes, map, option_map};
-ghost use Rattle.clap.specs.Built.{FitsChain, IsAuto};
-ghost use Rattle.clap.specs.Words.{first_of, matches_of, one_of, rule_of};
+ghost use Rattle.std.specs.Prelude.{◌≡◌, IfOk, Some, codes, map, option_map};
+ghost use Rattle.clap.specs.Words.{first_of, matches_of, one_of};
 ghost use Rattle.programs.specs.Numbers.{IsCount, IsNumberOr};
-ghost use Rattle.server_program.specs.ServerCommand.{IsFlag, IsServerCommand, flag_option, ssa_server};
+ghost use Rattle.programs.specs.Commands.{IsFlag};
+ghost use Rattle.server_program.specs.ServerCommand.{IsServerCommand, ssa_server};
 
 use crate::fault::ServerFault;
-use clap::{Arg, ArgAction, Command};
+use clap::Command;
 use programs::{
-    NumberOption, TYPES, TYPES_HELP, TextOption, count_of, file_option, number, number_option,
-    port_of, program, text_option,
+    DISCOVERY, DISCOVERY_HELP, NumberOption, TYPES, TYPES_HELP, TextOption, count_of, file_option,
+    flag_option, number, number_option, port_of, program, text_option,
 };
 use std::alloc::{AllocError, Global};
 use std::convert::AsStr;
@@ -114,18 +114,8 @@ pub struct ServerOptions<'a> {
     pub record: Option<&'a str>,
     /// The path of the file of the first objects.
     pub objects: Option<&'a str>,
-}
-
-/// `--<name>`
-fn flag_option<'a>(alloc: Global, name: &'a str, help: &'a str) -> Arg<'a>
-    ensures id { result.id ≡ name.entry }
-    ensures rule { rule_of result ≡ flag_option name.entry.now }
-    ensures fits { (name.entry.now ≡ [] → ⊥) → (IsAuto result → ⊥) → FitsChain result }
-{
-    Arg::new(alloc, name)
-        .long(name)
-        .help(help)
-        .action(ArgAction::SetTrue)
+    /// Whether documents tell clients of the types.
+    pub discovery: bool,
 }
 
 fn server_command<'a>(alloc: Global) -> Result<Command<'a>, AllocError>
@@ -141,7 +131,8 @@ fn server_command<'a>(alloc: Global) -> Result<Command<'a>, AllocError>
         .arg(number_option(alloc, PATIENCE))?
         .arg(flag_option(alloc, LOG, LOG_HELP))?
         .arg(text_option(alloc, RECORD))?
-        .arg(text_option(alloc, OBJECTS))
+        .arg(text_option(alloc, OBJECTS))?
+        .arg(flag_option(alloc, DISCOVERY, DISCOVERY_HELP))
 }
 
 /// Reads the arguments of `ssa-server`, the program's name first.
@@ -159,6 +150,7 @@ pub fn options<'a, S: AsStr>(
     ensures log { IfOk result (λ o. IsFlag (one_of (codes "log") (matches_of ssa_server (map S.text arguments.entry.now))) o.log) }
     ensures record { IfOk result (λ o. option_map (λ s. s.now) o.record ≡ first_of (codes "record") (matches_of ssa_server (map S.text arguments.entry.now))) }
     ensures objects { IfOk result (λ o. option_map (λ s. s.now) o.objects ≡ first_of (codes "objects") (matches_of ssa_server (map S.text arguments.entry.now))) }
+    ensures discovery { IfOk result (λ o. IsFlag (one_of (codes "discovery") (matches_of ssa_server (map S.text arguments.entry.now))) o.discovery) }
 {
     let matches = server_command(alloc)?.try_get_matches_from(arguments)?;
     let port = number(&matches, PORT)?;
@@ -168,6 +160,7 @@ pub fn options<'a, S: AsStr>(
     let serve = number(&matches, SERVE)?;
     let concurrent = matches.get_flag(CONCURRENT);
     let patience = number(&matches, PATIENCE)?;
+    let discovery = matches.get_flag(DISCOVERY);
     Ok(ServerOptions {
         types: matches.get_str(TYPES).unwrap(),
         port,
@@ -179,5 +172,6 @@ pub fn options<'a, S: AsStr>(
         log: matches.get_flag(LOG),
         record: matches.get_str(RECORD.name),
         objects: matches.get_str(OBJECTS.name),
+        discovery,
     })
 }

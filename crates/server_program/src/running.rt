@@ -6,7 +6,7 @@ use crate::creations::create_from;
 use crate::fault::ServerFault;
 use crate::following::FollowedFile;
 use crate::witness::Witness;
-use programs::{RunFault, end_with, types_in, types_text};
+use programs::{RunFault, discovered_if, end_with, types_in, types_text};
 use serving::{Limits, Server, serve_all};
 use std::io::{self, ErrorKind};
 use std::net::{Ipv4Addr, Net, OpenListener, SocketAddr, TcpListener};
@@ -134,6 +134,7 @@ fn run<R: Files + Net + Clock + Print + Eprint + AllocGlobal>(
     let options = options(rt.alloc(), arguments)?;
     let text = types_text(rt, options.types)?;
     let types = types_in(rt.alloc(), options.types, text.as_str())?;
+    let types = discovered_if(options.discovery, types);
     let mut api = Api::new(rt.alloc(), types)?;
     if let Some(path) = options.objects {
         create_from(rt, &mut api, path)?;

@@ -1,12 +1,15 @@
 //! Plays examples, each on a hub of its own: a line `NAME on WHAT: WHY`, and rows as `test_rows` plays them (`served_rows`)
-//! up to the next blank line. WHAT is `widgets`, `ports` (widgets with a list of ports), `status` (widgets with a status),
-//! `each kind` (widgets with each kind of list, and summaries), the last with `two revisions left`, or `the last revision`
-//! (widgets, where one revision is left); `: WHY` may be absent. The examples stand in `connections`, `single_objects`,
-//! `status_rows`, `list_rows`, `watch_rows`, `retype_rows`, `pieces` and `refused_memory`, the types that `types` rows name in
-//! `given`.
+//! up to the next blank line. WHAT is `widgets`, `discovered` (widgets that clients discover), `ports` (widgets with a list of
+//! ports), `status` (widgets with a status), `each kind` (widgets with each kind of list, and summaries), the last with
+//! `two revisions left`, or `the last revision` (widgets, where one revision is left); `discovered widgets with a status` and
+//! `discovered tags` are of types that documents tell of; `: WHY` may be absent. The examples stand in `connections`,
+//! `single_objects`, `lenient_rows`, `status_rows`, `list_rows`, `watch_rows`, `retype_rows`, `discovery_rows`, `pieces` and
+//! `refused_memory`, the types that `types` rows name in `given`.
 
 use crate::connections::CONNECTIONS;
-use crate::given::{EACH_KIND, PORT_TYPES, STATUS_TYPES, WIDGET_TYPES, types_text};
+use crate::discovery_rows::DOCUMENTS;
+use crate::given::{EACH_KIND, PORT_TYPES, STATUS_TYPES, TAG_TYPES, WIDGET_TYPES, types_text};
+use crate::lenient_rows::LENIENT;
 use crate::list_rows::LISTS;
 use crate::pieces::{FRONTS, LARGER_HEADS, PIECES};
 use crate::refused_memory::REFUSED_MEMORY;
@@ -106,16 +109,23 @@ fn api_of(alloc: Global, heading: &str) -> Result<Api, Fail> {
     let (heading, _) = heading.split_once(": ").unwrap_or((heading, ""));
     let text = match heading.rsplit_once(" on ") {
         Some((_, "ports")) => PORT_TYPES,
-        Some((_, "status")) => STATUS_TYPES,
+        Some((_, "status" | "discovered widgets with a status")) => STATUS_TYPES,
+        Some((_, "discovered tags")) => TAG_TYPES,
         Some((_, "each kind" | "each kind, two revisions left")) => EACH_KIND,
         _ => WIDGET_TYPES,
     };
-    let types = Types::read(alloc, &Value::from_str(alloc, text)?)?;
+    let mut types = Types::read(alloc, &Value::from_str(alloc, text)?)?;
+    if heading.contains(" on discovered ") {
+        types = types.with_discovery();
+    }
     if heading.ends_with(" on the last revision") {
         return Ok(Api::new_at(alloc, types, 9_223_372_036_854_775_806)?);
     }
     if heading.ends_with("two revisions left") {
         return Ok(Api::new_at(alloc, types, 9_223_372_036_854_775_805)?);
+    }
+    if heading.ends_with(" on discovered") {
+        return Ok(Api::new(alloc, types.with_discovery())?);
     }
     Ok(Api::new(alloc, types)?)
 }
@@ -147,6 +157,11 @@ fn writes_by_status(rt: HostRuntime) -> Result<(), Fail> {
 }
 
 #[test]
+fn lenient_calls(rt: HostRuntime) -> Result<(), Fail> {
+    play_all(&rt, LENIENT)
+}
+
+#[test]
 fn lists(rt: HostRuntime) -> Result<(), Fail> {
     play_all(&rt, LISTS)
 }
@@ -164,6 +179,11 @@ fn connections(rt: HostRuntime) -> Result<(), Fail> {
 #[test]
 fn types_that_change(rt: HostRuntime) -> Result<(), Fail> {
     play_all(&rt, RETYPES)
+}
+
+#[test]
+fn documents_of_discovery(rt: HostRuntime) -> Result<(), Fail> {
+    play_all(&rt, DOCUMENTS)
 }
 
 #[test]

@@ -8,9 +8,13 @@
 #[cfg(test)]
 mod connections;
 #[cfg(test)]
+mod discovery_rows;
+#[cfg(test)]
 mod given;
 #[cfg(test)]
 mod hub_rows;
+#[cfg(test)]
+mod lenient_rows;
 #[cfg(test)]
 mod list_rows;
 #[cfg(test)]

@@ -43,14 +43,15 @@ fn expect_row(alloc: Global, row: &str) -> Result<(), Fail> {
 /// Defaults; each option once; the least and the greatest numbers, where 0 connections are no limit; other forms of words and
 /// numbers; numbers that are none or out of range; what clap says of other words; help and the version.
 const ROWS: &str =
-    r#"--types t => ServerOptions { types: "t", port: 0, keep: 1000, pump: 500, serve: 18446744073709551615, concurrent: false, patience: 30000, log: false, record: None, objects: None }
---types widgets.json --port 8001 --keep 2 --pump 3 --serve 4 --concurrent --patience 5 => ServerOptions { types: "widgets.json", port: 8001, keep: 2, pump: 3, serve: 4, concurrent: true, patience: 5, log: false, record: None, objects: None }
---types t --log --record r.jsonl => ServerOptions { types: "t", port: 0, keep: 1000, pump: 500, serve: 18446744073709551615, concurrent: false, patience: 30000, log: true, record: Some("r.jsonl"), objects: None }
---types t --port 0 --keep 0 --pump 1 --serve 0 --patience 1 => ServerOptions { types: "t", port: 0, keep: 0, pump: 1, serve: 18446744073709551615, concurrent: false, patience: 1, log: false, record: None, objects: None }
---types t --port 65535 --keep 18446744073709551615 => ServerOptions { types: "t", port: 65535, keep: 18446744073709551615, pump: 500, serve: 18446744073709551615, concurrent: false, patience: 30000, log: false, record: None, objects: None }
---types t --pump 18446744073709551615 --serve 18446744073709551615 --patience 18446744073709551615 => ServerOptions { types: "t", port: 0, keep: 1000, pump: 18446744073709551615, serve: 18446744073709551615, concurrent: false, patience: 18446744073709551615, log: false, record: None, objects: None }
---concurrent --serve=1 --pump=007 --keep=+7 --types=t => ServerOptions { types: "t", port: 0, keep: 7, pump: 7, serve: 1, concurrent: true, patience: 30000, log: false, record: None, objects: None }
---types t --objects o => ServerOptions { types: "t", port: 0, keep: 1000, pump: 500, serve: 18446744073709551615, concurrent: false, patience: 30000, log: false, record: None, objects: Some("o") }
+    r#"--types t => ServerOptions { types: "t", port: 0, keep: 1000, pump: 500, serve: 18446744073709551615, concurrent: false, patience: 30000, log: false, record: None, objects: None, discovery: false }
+--types widgets.json --port 8001 --keep 2 --pump 3 --serve 4 --concurrent --patience 5 => ServerOptions { types: "widgets.json", port: 8001, keep: 2, pump: 3, serve: 4, concurrent: true, patience: 5, log: false, record: None, objects: None, discovery: false }
+--types t --log --record r.jsonl => ServerOptions { types: "t", port: 0, keep: 1000, pump: 500, serve: 18446744073709551615, concurrent: false, patience: 30000, log: true, record: Some("r.jsonl"), objects: None, discovery: false }
+--types t --port 0 --keep 0 --pump 1 --serve 0 --patience 1 => ServerOptions { types: "t", port: 0, keep: 0, pump: 1, serve: 18446744073709551615, concurrent: false, patience: 1, log: false, record: None, objects: None, discovery: false }
+--types t --port 65535 --keep 18446744073709551615 => ServerOptions { types: "t", port: 65535, keep: 18446744073709551615, pump: 500, serve: 18446744073709551615, concurrent: false, patience: 30000, log: false, record: None, objects: None, discovery: false }
+--types t --pump 18446744073709551615 --serve 18446744073709551615 --patience 18446744073709551615 => ServerOptions { types: "t", port: 0, keep: 1000, pump: 18446744073709551615, serve: 18446744073709551615, concurrent: false, patience: 18446744073709551615, log: false, record: None, objects: None, discovery: false }
+--concurrent --serve=1 --pump=007 --keep=+7 --types=t => ServerOptions { types: "t", port: 0, keep: 7, pump: 7, serve: 1, concurrent: true, patience: 30000, log: false, record: None, objects: None, discovery: false }
+--types t --objects o => ServerOptions { types: "t", port: 0, keep: 1000, pump: 500, serve: 18446744073709551615, concurrent: false, patience: 30000, log: false, record: None, objects: Some("o"), discovery: false }
+--types t --discovery => ServerOptions { types: "t", port: 0, keep: 1000, pump: 500, serve: 18446744073709551615, concurrent: false, patience: 30000, log: false, record: None, objects: None, discovery: true }
 --types t --port 65536 => 2: --port: a whole number from 0 to 65535
 --types t --port=-1 => 2: --port: a whole number from 0 to 65535
 --types t --port x => 2: --port: a whole number from 0 to 65535
@@ -73,11 +74,12 @@ const ROWS: &str =
 --types t --types t => 2: error: the argument '--types <FILE>' cannot be used multiple times$..
 --types t --keep 1 --keep 1 => 2: error: the argument '--keep <N>' cannot be used multiple times$..
 --types t --record => 2: error: a value is required for '--record <FILE>' but none was supplied$..
+--types t --discovery --discovery => 2: error: the argument '--discovery' cannot be used multiple times$..
 --types t --disk => 2: error: unexpected argument '--disk' found$..
 --types t -p 8001 => 2: error: unexpected argument '-p' found$..
 --types t 8001 => 2: error: unexpected argument '8001' found$..
 --help => 0: Serves the types of a file on loopback, with objects in memory$..
---version => 0: ssa-server 1.0.0$"#;
+--version => 0: ssa-server 1.1.0$"#;
 
 #[test]
 fn arguments_are_read(rt: HostRuntime) -> Result<(), Fail> {

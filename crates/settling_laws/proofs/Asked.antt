@@ -20,7 +20,7 @@ use Rattle.serde_json.specs.Written.{compact_text}
 use Rattle.api_types.specs.TypesFile.{ServedShape}
 use Rattle.api_request.specs.declared.method.Method.TheVariants.{Patch}
 use Rattle.api_request.specs.declared.resource.Resource.TheVariants.{Object}
-use Rattle.api_request.specs.Admit.{RequestInfo, admitted, place_admitted, place_of}
+use Rattle.api_request.specs.Admit.{RequestInfo, admitted, path_admitted, place_of}
 use Rattle.api_request.specs.Calls.{Target}
 use Rattle.api_request.specs.RouteLaws.{IsPart, place_for}
 use Rattle.api_request.proofs.Leading.{paths_of_objects}
@@ -199,7 +199,7 @@ module _ (ask : RequestsAsk) (types : List ServedShape) (kind : ℕ) (s : Summed
       ∙ ap (place_for Object (Some of_namespace) (Some of_name)) serves.numbered
 
   is_admitted : admitted types (codes "PATCH") path (Some media) ≡ Ok target
-  is_admitted = ap (λ (o : Option RequestInfo). place_admitted o (codes "PATCH") (Some media)) place_is
+  is_admitted = ap (λ (o : Option RequestInfo). path_admitted types o (codes "PATCH") path (Some media)) place_is
 
   abbrev body : Data
   body = summary_of s of_namespace of_name

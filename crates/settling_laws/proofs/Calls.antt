@@ -31,11 +31,12 @@ use Rattle.api_request.specs.Calls.{scope_of}
 use Rattle.api_request.specs.Validated.{Validated, and_then, require}
 use Rattle.api_validation.specs.Envelope.{Envelope, Expected, api_version_of, envelope_of, given_validated, must_be, wanted_validated}
 use Rattle.api_validation.specs.Naming.{names_validated, path_validated}
-use Rattle.api_validation.specs.Parameters.{parameters_validated, read_or_refused}
+use Rattle.api_validation.specs.Parameters.{parameters_for, parameters_validated, read_or_refused}
 use Rattle.api_validation.specs.Shapes.{shape_validated}
 use Rattle.json_values.specs.Texts.{unless_empty}
 use Rattle.params.specs.Reading.{params_of}
 use Rattle.verbs.specs.Machine.{IsNamed, state_of_existing}
+use Rattle.verbs.specs.DryRuns.{is_dry_run, run_by}
 use Rattle.verbs.specs.Step.{Intent, applied_over, apply_plan, at_path, conflict_refusal, dispatch_type, intent_of, ownership_validated, plan_for, plan_put_unless_same, planned}
 use Rattle.watchline.specs.Watches.{from_history}
 use Rattle.indexer.specs.Objects.{Place}
@@ -124,7 +125,7 @@ module _ (s : Summed) (kind : ℕ) (place : Place) where
   pub intended : IsSayable s → intent_of of asked.Apply query body ≡ Ok intent
   intended is =
       then_ok (envelope_of of body) envelope _ envelope_read ∙ then_ok (shape_validated (content_of summary_shape rest)) (fields s) _ (ap shape_validated (body_read s is))
-      ∙ then_ok (parameters_validated asked.Apply query) values _ query_read
+      ∙ then_ok (parameters_for summary_type asked.Apply query) values _ query_read
 
   named : IsNamed k → names_validated Main place.0 place.1 rest ≡ Ok tt
   named is =
@@ -157,6 +158,6 @@ module _ (s : Summed) (kind : ℕ) (place : Place) where
   pub apply_planned : (types : List ServedShape) (m : History) → slice_get types kind ≡ Some summary_type → IsNamed k → IsSayable s
       → planned types m (apply_call kind s place) ≡ plan_for (plan_put_unless_same summary_type m.current k (fin.get (current_objects m) k) (new (fin.get (current_objects m) k)))
   apply_planned types m serves is_named is =
-      ap plan_for
-      (ap (λ (t : Option ServedShape). dispatch_type t (scope_of (Some place.0) (Some place.1) false) (from_history m) (apply_call kind s place)) serves
-      ∙ plans m.current (fin.get (current_objects m) k) is_named is)
+      ap (λ (t : Option ServedShape). run_by (is_dry_run t (apply_call kind s place)) (current_objects m) (plan_for (dispatch_type types t (scope_of (Some place.0) (Some place.1) false) (from_history m) (apply_call kind s place))))
+      serves
+      ∙ ap plan_for (plans m.current (fin.get (current_objects m) k) is_named is)

@@ -37,7 +37,7 @@ abbrev pub summary_shape : Shape
 summary_shape = struct_of (field (codes "metadata") metadata (field (codes "spec") spec_shape no_fields)) false
 
 abbrev pub summary_type : ServedShape
-summary_type = record { group = codes "summary.example"; version = codes "v1"; kind = codes "LabelSummary"; plural = codes "labelsummaries"; shape = summary_shape }
+summary_type = record { group = codes "summary.example"; version = codes "v1"; kind = codes "LabelSummary"; plural = codes "labelsummaries"; shape = summary_shape; is_discovered = false }
 
 -- ---- the law
 

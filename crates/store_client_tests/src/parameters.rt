@@ -3,13 +3,15 @@
 //! | question | answer |
 //! |---|---|
 //! | `CALL ?QUERY` | the watch, the version, the force and the manager that are read of it, or the parameter at fault |
+//! | `leniently CALL ?QUERY` | the same, read leniently |
+//! | `dry run ?QUERY` | whether it asks for a dry run |
 //! | `tiers ?QUERY` | whether a list's selector takes objects of the tiers `web` and `db` |
 //! | `token ?QUERY` | a list's token, and the text of one of these parts |
 //! | `values ?QUERY` | the limit of a list, its version and how that is matched |
 //! | `fault ?QUERY` | how a list's fault is printed |
 
 use crate::selectors::takes;
-use params::{Asked, Params, ParamsFault, Token};
+use params::{Asked, Params, ParamsFault, Token, is_dry_run};
 use std::alloc::Global;
 use std::test::Fail;
 use test_rows::{Answers, in_words, play_all};
@@ -20,15 +22,32 @@ struct Readings;
 impl Answers for Readings {
     fn answer(&mut self, alloc: Global, question: &str) -> Result<String, Fail> {
         let (call, query) = question.split_once(" ?").ok_or("no query")?;
-        match call {
-            "Apply" => shown(alloc, read(alloc, Asked::Apply, query)),
-            "Delete" => shown(alloc, read(alloc, Asked::Delete, query)),
-            "Get" => shown(alloc, read(alloc, Asked::Get, query)),
-            "List" => shown(alloc, read(alloc, Asked::List, query)),
-            "Post" => shown(alloc, read(alloc, Asked::Post, query)),
-            "Put" => shown(alloc, read(alloc, Asked::Put, query)),
-            _ => answer_of_list(alloc, call, &read(alloc, Asked::List, query)),
+        if call == "dry run" {
+            return in_words(alloc, is_dry_run(alloc, query.as_bytes())?);
         }
+        if let Some(lenient) = call.strip_prefix("leniently ") {
+            let asked = asked_by(lenient).ok_or("no such call")?;
+            return shown(
+                alloc,
+                Params::read_leniently(alloc, asked, query.as_bytes()),
+            );
+        }
+        match asked_by(call) {
+            Some(asked) => shown(alloc, read(alloc, asked, query)),
+            None => answer_of_list(alloc, call, &read(alloc, Asked::List, query)),
+        }
+    }
+}
+
+fn asked_by(call: &str) -> Option<Asked> {
+    match call {
+        "Apply" => Some(Asked::Apply),
+        "Delete" => Some(Asked::Delete),
+        "Get" => Some(Asked::Get),
+        "List" => Some(Asked::List),
+        "Post" => Some(Asked::Post),
+        "Put" => Some(Asked::Put),
+        _ => None,
     }
 }
 
@@ -111,6 +130,31 @@ Get ?resourceVersion=x => Bad(ResourceVersion)
 Get ?resourceVersion=01 => Bad(ResourceVersion)
 Get ?watch=x&resourceVersionMatch=x&labelSelector=(&dryRun=All&resourceVersion=7 => (None, Some(7), false, "")
 Get ?resourceVersion=7&resourceVersion=8 => (None, Some(7), false, "")
+
+lenient_readings: what is sent of types that are discovered
+leniently Apply ?fieldManager=a&force=True&fieldValidation=Ignore => (None, None, true, "a")
+leniently Apply ?fieldManager=a&force=False&fieldValidation=Warn => (None, None, false, "a")
+leniently Apply ?fieldManager=True&dryRun=All => (None, None, false, "True")
+leniently Apply ?fieldManager=a&force=TRUE => Bad(Force)
+leniently Apply ?fieldManager=a&fieldValidation=ignore => Bad(FieldValidation)
+leniently Apply ?fieldValidation=Ignore => Bad(FieldManager)
+leniently Post ?dryRun=All&fieldValidation=Strict => (None, None, false, "unknown")
+leniently Post ?dryRun=all => Bad(DryRun)
+leniently Put ?fieldManager=Ignore&dryRun=&dryRun=x => (None, None, false, "Ignore")
+leniently Delete ?dryRun=All&dryRun=x => (None, None, false, "")
+leniently Delete ?dryRun=Server => Bad(DryRun)
+leniently List ?watch=True&allowWatchBookmarks=True&timeoutSeconds=2 => (Some(Watch { has_bookmarks: true, timeout: 2 }), None, false, "")
+leniently List ?watch=False&resourceVersion=7 => (None, Some(7), false, "")
+leniently List ?fieldSelector=metadata.name%3Da => Bad(FieldSelector)
+leniently List ?sendInitialEvents=False => Bad(SendInitialEvents)
+leniently Get ?resourceVersion=True => Bad(ResourceVersion)
+List ?watch=True => Bad(Watch)
+List ?watch=1&allowWatchBookmarks=False => Bad(AllowWatchBookmarks)
+dry run ?fieldManager=a&dryRun=All => true
+dry run ?dryRun=All&dryRun=x => true
+dry run ?dryRun=&dryRun=All => false
+dry run ?dryRun=all => false
+dry run ? => false
 
 faults_of_lists
 List ? => (None, None, false, "")

@@ -1,6 +1,6 @@
 -- What a call changes, and what it leaves.
 use Rattle.std.proofs.Common.{◌≡◌, ℕ, suc, Bool, true, false, cond, List, Option, Some, None, Ok, Err, refl, sym, ap, subst, ◌∙◌}
-use Rattle.std.specs.Prelude.{IfSome, slice_get}
+use Rattle.std.specs.Prelude.{IfSome, option_and_then, slice_get}
 use Rattle.std.specs.FinMap as fin
 use Rattle.std.specs.declared.result.Result.{Result}
 use Rattle.lists.specs.declared.refusal.Refusal.{Refusal}
@@ -12,32 +12,38 @@ use Rattle.api_request.specs.declared.method.Method.{Method}
 use Rattle.api_request.specs.declared.method.Method.TheVariants.{Get}
 use Rattle.api_request.specs.Calls.{Answer, Call, Plan, Scope, of_all, of_namespace, of_object, scope_of}
 use Rattle.verbs.specs.Machine.{IsNext, after}
-use Rattle.api_validation.specs.Parameters.{parameters_validated}
-use Rattle.verbs.specs.PromiseLaws.{CallsChangeOneObject, GetsChangeNothing, IsCalled, RefusalsChangeNothing}
+use Rattle.api_validation.specs.Parameters.{parameters_for}
+use Rattle.verbs.specs.DryRuns.{is_dry_run, run_by}
+use Rattle.verbs.specs.PromiseLaws.{CallsChangeOneObject, DryRunsChangeNothing, GetsChangeNothing, IsCalled, OthersAreRun, RefusalsChangeNothing}
 use Rattle.verbs.specs.Step.{collection_of, get_plan, key_at, list_answered, list_plan, object_at, plan_for, shown_by, require_found, dispatch_type, dispatch_scope, dispatch_call, version_reached}
 use Rattle.api_request.specs.Validated.{Validated}
 use Rattle.watchline.specs.Watches.{HistoryWindow, from_history}
 use Rattle.verbs.proofs.Changes.{current_objects_next}
+use Rattle.verbs.proofs.Runs.{change_of_run}
 use Rattle.api_request.proofs.Checks.{change_in, no_err, passed}
+use Rattle.discovery.specs.Paths.{text_in}
+use Rattle.verbs.proofs.Documents.{document_none}
 use Rattle.verbs.proofs.Fits.{Fits, planned_fits}
 use Rattle.verbs.proofs.Promise.{plans_come_next}
 
 pub refusals_change_nothing : RefusalsChangeNothing
-refusals_change_nothing types m call d e = ap (λ (j : Validated Plan). after m (plan_for j).change) e
+refusals_change_nothing types m call d e =
+    change_of_run (λ c. after m c ≡ m) (is_dry_run (slice_get types call.target.kind) call) (current_objects m) (plan_for (dispatch_call types (from_history m) call)) refl
+    (ap (λ (j : Validated Plan). after m (plan_for j).change) e)
 
 -- ---- a GET
 
 module _ (s : HistoryWindow) (call : Call) (is : call.target.method ≡ Get) where
   got_none : (t : ServedShape) (k : Key) (p : Plan) → get_plan t s.current (object_at s k) k call.query ≡ Ok p → None ≡ p.change
   got_none t k p e =
-      let values = passed (parameters_validated asked.Get call.query) _ p e in
+      let values = passed (parameters_for t asked.Get call.query) _ p e in
       let o = passed (require_found t k.name (object_at s k)) _ p values.2 in
       let come = passed (version_reached values.0.version s.current) _ p o.2 in
       ap change_in come.2
 
   listed_none : (t : ServedShape) (kind : ℕ) (namespace : Option (List ℕ)) (p : Plan) → list_plan t s kind namespace call.query ≡ Ok p → None ≡ p.change
   listed_none t kind namespace p e =
-      let values = passed (parameters_validated asked.List call.query) _ p e in
+      let values = passed (parameters_for t asked.List call.query) _ p e in
       answered (shown_by s (collection_of t kind namespace) values.0 values.0.watch) values.2
     where
       answered : (r : Result Answer Refusal) → list_answered r ≡ Ok p → None ≡ p.change
@@ -49,17 +55,27 @@ module _ (s : HistoryWindow) (call : Call) (is : call.target.method ≡ Get) whe
   by_none t (of_namespace namespace) p e = listed_none t call.target.kind (Some namespace) p e
   by_none t (of_object namespace name subresource) p e = got_none t (key_at call namespace name) p e
 
-  at_none : (found : Option ServedShape) (scope : Option Scope) (p : Plan) → dispatch_type found scope s call ≡ Ok p → None ≡ p.change
-  at_none None scope p e = no_err _ p e
-  at_none (Some t) None p e = no_err _ p e
-  at_none (Some t) (Some scope) p e = by_none t scope p (subst (λ (w : Method). dispatch_scope scope w t s call ≡ Ok p) is e)
+  at_none : (types : List ServedShape) (found : Option ServedShape) (scope : Option Scope) (p : Plan) → dispatch_type types found scope s call ≡ Ok p → None ≡ p.change
+  at_none types None scope p e = no_err _ p e
+  at_none types (Some t) None p e = document_none (option_and_then (text_in types) call.target.name) p e
+  at_none types (Some t) (Some scope) p e = by_none t scope p (subst (λ (w : Method). dispatch_scope scope w t s call ≡ Ok p) is e)
 
   plans_none : (types : List ServedShape) (j : Validated Plan) → dispatch_call types s call ≡ j → None ≡ (plan_for j).change
   plans_none types (Err d) e = refl
-  plans_none types (Ok p) e = at_none (slice_get types call.target.kind) (scope_of call.target.namespace call.target.name call.target.status) p e
+  plans_none types (Ok p) e = at_none types (slice_get types call.target.kind) (scope_of call.target.namespace call.target.name call.target.status) p e
 
 pub gets_change_nothing : GetsChangeNothing
-gets_change_nothing types m call is = ap (after m) (sym (plans_none (from_history m) call is types (dispatch_call types (from_history m) call) refl))
+gets_change_nothing types m call is =
+    change_of_run (λ c. after m c ≡ m) (is_dry_run (slice_get types call.target.kind) call) (current_objects m) (plan_for (dispatch_call types (from_history m) call)) refl
+    (ap (after m) (sym (plans_none (from_history m) call is types (dispatch_call types (from_history m) call) refl)))
+
+-- ---- a dry run
+
+pub dry_runs_change_nothing : DryRunsChangeNothing
+dry_runs_change_nothing types m call is = ap (λ (b : Bool). after m (run_by b (current_objects m) (plan_for (dispatch_call types (from_history m) call))).change) is
+
+pub others_are_run : OthersAreRun
+others_are_run types m call is = ap (λ (b : Bool). run_by b (current_objects m) (plan_for (dispatch_call types (from_history m) call))) is
 
 -- ---- the object that a call changes
 

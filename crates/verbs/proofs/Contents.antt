@@ -20,7 +20,7 @@ use Rattle.objects.proofs.Taken.{Kept, found_encodable, found_depth}
 use Rattle.api_request.specs.Json.{IsJson}
 use Rattle.api_validation.specs.Envelope.{Envelope, Expected, envelope_of, given_validated, kind_validated, managers_by, member_of, members_but, metadata_in, metadata_validated, metadata_names, put_metadata, rest_of, top_names, version_allowed, version_validated, with_others}
 use Rattle.api_request.specs.Validated.{Validated}
-use Rattle.api_validation.specs.Parameters.{parameters_validated}
+use Rattle.api_validation.specs.Parameters.{parameters_for}
 use Rattle.api_validation.specs.Shapes.{shape_validated}
 use Rattle.verbs.specs.Step.{Intent, intent_of}
 use Rattle.api_request.proofs.Checks.{no_err, ok_is, passed}
@@ -126,7 +126,7 @@ intended_content of how query body i shaped json e =
     let s = of.served.shape in
     let envelope = passed (envelope_of of body) _ i e in
     let shape = passed (shape_validated (content_of s envelope.0.rest)) _ i envelope.2 in
-    let values = passed (parameters_validated how query) _ i shape.2 in
+    let values = passed (parameters_for of.served how query) _ i shape.2 in
     let rest = rest_json of body envelope.0 json envelope.1 in
     subst (IsContent s) (ap (content_in shape.0) values.2)
     (reading_content s envelope.0.rest shape.0 (and_parts (is_well_formed s) _ shaped.1).0 rest.0 rest.1 (read_well (content_of s envelope.0.rest) shape.0 shape.1))

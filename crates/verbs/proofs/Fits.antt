@@ -25,13 +25,17 @@ use Rattle.api_request.specs.Validated.{Validated, and_then}
 use Rattle.verbs.specs.Machine.{ComesAfter, no_state, state_of_existing, decoded_state}
 use Rattle.api_validation.specs.Naming.{labels_and_annotations_validated_by, names_validated, required_name}
 use Rattle.api_validation.specs.Options.{options_validated}
-use Rattle.api_validation.specs.Parameters.{parameters_validated}
+use Rattle.api_validation.specs.Parameters.{parameters_for}
 use Rattle.verbs.specs.PromiseLaws.{IsCalled, name_called}
 use Rattle.verbs.specs.Views.{objects_in}
 use Rattle.api_validation.specs.Size.{size_validated}
 use Rattle.watchline.specs.Watches.{HistoryWindow, from_view}
 use Rattle.verbs.specs.Step.{Creation, Intent, apply_plan, at_path, body_of, created_as, creation_validated, delete_plan, deleted_over, get_plan, intent_of, dispatch_type, dispatch_scope, dispatch_call, plan_without_change, key_at, manager_for, require_absent, dispatch_object, plan_for, planned_over, ownership_validated, object_value_at, revisions_left, plan_put, plan_put_unless_same, require_found, require_object_of_status, update_plan, updated_by, updated_over, version_checked, version_reached, collection_of, list_answered, list_plan, shown_by}
 use Rattle.api_request.proofs.Checks.{change_in, no_err, ok_is, passed}
+use Rattle.discovery.specs.Paths.{text_in}
+use Rattle.verbs.proofs.Documents.{document_none}
+use Rattle.verbs.specs.DryRuns.{is_dry_run}
+use Rattle.verbs.proofs.Runs.{change_of_run}
 
 -- and its key is one of those that Q says
 abbrev pub Fits : ℕ → Objects → (Key → Type 0) → Option Change → Type 0
@@ -95,13 +99,13 @@ module _ (current : ℕ) (objects : Objects) (Q : Key → Type 0) where
 
   delete_fits : (t : ServedShape) (k : Key) (query : List ℕ) (body : Option Data) (p : Plan) → Q k → delete_plan t current (fin.get objects k) k query body ≡ Ok p → Fits current objects Q p.change
   delete_fits t k query body p own e =
-      let version = passed (options_validated body) _ p e in
-      let values = passed (parameters_validated asked.Delete query) _ p version.2 in
+      let version = passed (options_validated t.is_discovered body) _ p e in
+      let values = passed (parameters_for t asked.Delete query) _ p version.2 in
       deleted_fits t k version.0 (fin.get objects k) p own refl values.2
 
   get_fits : (t : ServedShape) (k : Key) (query : List ℕ) (p : Plan) → get_plan t current (fin.get objects k) k query ≡ Ok p → Fits current objects Q p.change
   get_fits t k query p e =
-      let values = passed (parameters_validated asked.Get query) _ p e in
+      let values = passed (parameters_for t asked.Get query) _ p e in
       let o = passed (require_found t k.name (fin.get objects k)) _ p values.2 in
       let come = passed (version_reached values.0.version current) _ p o.2 in
       subst (Fits current objects Q) (ap change_in come.2) tt
@@ -146,7 +150,7 @@ module _ (s : HistoryWindow) (call : Call) where
   -- a list changes nothing
   list_fits : (t : ServedShape) (kind : ℕ) (namespace : Option (List ℕ)) → AllFit (list_plan t s kind namespace call.query)
   list_fits t kind namespace p e =
-      let values = passed (parameters_validated asked.List call.query) _ p e in
+      let values = passed (parameters_for t asked.List call.query) _ p e in
       answered (shown_by s (collection_of t kind namespace) values.0 values.0.watch) values.2
     where
       answered : (r : Result Answer Refusal) → list_answered r ≡ Ok p → Fits current objects (IsCalled call) p.change
@@ -174,24 +178,27 @@ module _ (s : HistoryWindow) (call : Call) where
   body_name : (name : List ℕ) → call.target.name ≡ None → option_and_then name_in call.body ≡ Some name → name_called call ≡ Some name
   body_name name is given = ap (λ o. option_or o (option_and_then name_in call.body)) is ∙ given
 
-  in_fits : (t : ServedShape) (namespace name : Option (List ℕ)) → call.target.namespace ≡ namespace → call.target.name ≡ name → AllFit (dispatch_type (Some t) (scope_of namespace name call.target.status) s call)
-  in_fits t None None well_typed is p e = all_fits call.target.method t p e
-  in_fits t None (Some name) well_typed is p e = no_err _ p e
-  in_fits t (Some namespace) None well_typed is p e =
+  in_fits : (types : List ServedShape) (t : ServedShape) (namespace name : Option (List ℕ)) → call.target.namespace ≡ namespace → call.target.name ≡ name
+      → AllFit (dispatch_type types (Some t) (scope_of namespace name call.target.status) s call)
+  in_fits types t None None well_typed is p e = all_fits call.target.method t p e
+  in_fits types t None (Some name) well_typed is p e = subst (Fits current objects (IsCalled call)) (document_none (option_and_then (text_in types) call.target.name) p e) tt
+  in_fits types t (Some namespace) None well_typed is p e =
       collection_fits call.target.method t namespace (λ name given. record { kind = refl; namespace = well_typed; name = body_name name is given }) p e
-  in_fits t (Some namespace) (Some name) well_typed is p e =
+  in_fits types t (Some namespace) (Some name) well_typed is p e =
       object_fits call.target.method (subresource_of call.target.status) t (key_at call namespace name) (record { kind = refl; namespace = well_typed; name = path_name name is }) p e
 
-  at_fits : (found : Option ServedShape) → AllFit (dispatch_type found (scope_of call.target.namespace call.target.name call.target.status) s call)
-  at_fits None p e = no_err _ p e
-  at_fits (Some t) p e = in_fits t call.target.namespace call.target.name refl refl p e
+  at_fits : (types : List ServedShape) (found : Option ServedShape) → AllFit (dispatch_type types found (scope_of call.target.namespace call.target.name call.target.status) s call)
+  at_fits types None p e = no_err _ p e
+  at_fits types (Some t) p e = in_fits types t call.target.namespace call.target.name refl refl p e
 
   reported_fits : (types : List ServedShape) (j : Validated Plan) → dispatch_call types s call ≡ j → Fits current objects (IsCalled call) (plan_for j).change
   reported_fits types (Err d) e = tt
-  reported_fits types (Ok p) e = at_fits (slice_get types call.target.kind) p e
+  reported_fits types (Ok p) e = at_fits types (slice_get types call.target.kind) p e
 
   pub planned_fits : (types : List ServedShape) → Fits current objects (IsCalled call) (planned_over types s call).change
-  planned_fits types = reported_fits types (dispatch_call types s call) refl
+  planned_fits types =
+      change_of_run (Fits current objects (IsCalled call)) (is_dry_run (slice_get types call.target.kind) call) objects (plan_for (dispatch_call types s call)) tt
+      (reported_fits types (dispatch_call types s call) refl)
 
 if_comes : (v : View) (Q : Key → Type 0) (change : Option Change) → Fits v.current (objects_in v) Q change → IfSome change (ComesAfter v)
 if_comes v Q None is = tt

@@ -1,7 +1,9 @@
 pub mod Changed
 pub mod Changes
 pub mod Causes
+pub mod Runs
 pub mod Contents
+pub mod Documents
 pub mod Counts
 pub mod Fits
 pub mod Machines

@@ -1,5 +1,5 @@
 -- A machine from its beginning on.
-use Rattle.std.proofs.Common.{◌≡◌, ℕ, List, [], ◌∷◌, Option, None, Some, Ok, Err, refl, sym, ap, cond}
+use Rattle.std.proofs.Common.{◌≡◌, ℕ, List, [], ◌∷◌, Option, None, Some, Ok, Err, refl, sym, ap, ap₂, cond}
 use Rattle.std.specs.Prelude.{◌==◌, nat_lt, slice_get}
 use Rattle.std.specs.declared.result.Result.{Result}
 use Rattle.std.specs.FinMap as fin
@@ -21,13 +21,14 @@ use Rattle.watchline.specs.declared.opening.InitialEvents.TheVariants.{Changes}
 use Rattle.watchline.specs.Opening.{WatchFrom, from_parts, initial_in, initial_of, started, opened_by, starts}
 use Rattle.watchline.specs.Watches.{from_history, from_view}
 use Rattle.history.proofs.Wholes.{whole_compacts, whole_fresh}
-use Rattle.api_request.specs.Calls.{Call, Scope, of_all, of_namespace, of_object, scope_of}
+use Rattle.api_request.specs.Calls.{Call, Plan, Scope, of_all, of_namespace, of_object, scope_of}
 use Rattle.api_request.specs.Json.{IsJsonBody}
-use Rattle.api_validation.specs.Parameters.{parameters_validated}
+use Rattle.api_validation.specs.Parameters.{parameters_for}
 use Rattle.api_request.specs.Validated.{Validated, and_then}
 use Rattle.api_request.specs.declared.method.Method.{Method}
 use Rattle.api_request.specs.declared.method.Method.TheVariants.{Get, Post, Put, Patch, Delete}
 use Rattle.verbs.specs.Machine.{IsMachine}
+use Rattle.verbs.specs.DryRuns.{is_dry_run, run_by}
 use Rattle.verbs.specs.PromiseLaws.{CallsKeepMachines, CompactionsKeepMachines, MachinesBegin, PlansByViews}
 use Rattle.verbs.specs.Step.{body_of, collection_of, created_as, creation_validated, key_at, list_answered, dispatch_object, page_shown, plan_for, shown_by, step, steps, dispatch_type, dispatch_scope, dispatch_call, watch_shown}
 use Rattle.verbs.proofs.Changes.{is_history, no_texts}
@@ -79,12 +80,12 @@ module _ (types : List ServedShape) (m : History) (is : IsMachine types m) where
   listed_seen t kind namespace (Err d) = refl
 
   by_seen : (scope : Scope) (w : Method) (t : ServedShape) (call : Call) → dispatch_scope scope w t (from_view (view m)) call ≡ dispatch_scope scope w t (from_history m) call
-  by_seen of_all Get t call = listed_seen t call.target.kind None (parameters_validated asked.List call.query)
+  by_seen of_all Get t call = listed_seen t call.target.kind None (parameters_for t asked.List call.query)
   by_seen of_all Post t call = refl
   by_seen of_all Put t call = refl
   by_seen of_all Patch t call = refl
   by_seen of_all Delete t call = refl
-  by_seen (of_namespace namespace) Get t call = listed_seen t call.target.kind (Some namespace) (parameters_validated asked.List call.query)
+  by_seen (of_namespace namespace) Get t call = listed_seen t call.target.kind (Some namespace) (parameters_for t asked.List call.query)
   by_seen (of_namespace namespace) Post t call =
       ap (λ (os : Objects). and_then (body_of call.body) (λ body. and_then (creation_validated t call.target.kind namespace call.query body) (λ c. created_as t m.current (fin.get os c.key) c.key c.intent)))
       (current_objects_seen types m is)
@@ -94,7 +95,7 @@ module _ (types : List ServedShape) (m : History) (is : IsMachine types m) where
   by_seen (of_object namespace name subresource) w t call =
       ap (λ (os : Objects). dispatch_object w subresource t m.current (fin.get os (key_at call namespace name)) (key_at call namespace name) call.query call.body) (current_objects_seen types m is)
 
-  at_seen : (found : Option ServedShape) (scope : Option Scope) (call : Call) → dispatch_type found scope (from_view (view m)) call ≡ dispatch_type found scope (from_history m) call
+  at_seen : (found : Option ServedShape) (scope : Option Scope) (call : Call) → dispatch_type types found scope (from_view (view m)) call ≡ dispatch_type types found scope (from_history m) call
   at_seen None scope call = refl
   at_seen (Some t) None call = refl
   at_seen (Some t) (Some scope) call = by_seen scope call.target.method t call
@@ -103,4 +104,5 @@ module _ (types : List ServedShape) (m : History) (is : IsMachine types m) where
   over_seen call = at_seen (slice_get types call.target.kind) (scope_of call.target.namespace call.target.name call.target.status) call
 
 pub plans_by_views : PlansByViews
-plans_by_views types m call is = sym (ap plan_for (over_seen types m is call))
+plans_by_views types m call is =
+    sym (ap₂ (λ (os : Objects) (j : Validated Plan). run_by (is_dry_run (slice_get types call.target.kind) call) os (plan_for j)) (current_objects_seen types m is) (over_seen types m is call))

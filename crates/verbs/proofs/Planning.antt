@@ -11,7 +11,7 @@ use Rattle.history.specs.View.{View, compacted_in, written_in}
 use Rattle.history.proofs.Seen.{view_compacts, view_writes}
 use Rattle.objects.specs.ReadBack.{IsObjectText}
 use Rattle.objects.proofs.Taken.{same_some}
-use Rattle.watchline.specs.Watches.{from_history, from_view}
+use Rattle.watchline.specs.Watches.{from_view}
 use Rattle.verbs.specs.declared.api.Api.{Api}
 use Rattle.api_request.specs.declared.body.Body.{Body}
 use Rattle.api_request.specs.declared.calls.Call.{Call as TheCall}
@@ -21,21 +21,18 @@ use Rattle.api_request.specs.Json.{IsJsonBody}
 use Rattle.api_request.specs.Calls.{Call, Plan}
 use Rattle.verbs.specs.Machine.{AreTexts, IsMachine, IsNext, IsReadable, after, identity_of}
 use Rattle.verbs.proofs.Changes.{all_push, is_history, machine_next}
-use Rattle.verbs.proofs.Machines.{compactions_keep_machines, over_seen, current_objects_seen}
+use Rattle.verbs.proofs.Machines.{compactions_keep_machines, plans_by_views, current_objects_seen}
 use Rattle.verbs.proofs.Promise.{plans_come_next}
 use Rattle.api_request.specs.Views.{body_seen, call_of, change_of, plan_of}
 use Rattle.verbs.specs.Views.{ApiRepresents, types_of, objects_in}
-use Rattle.verbs.specs.Step.{plan_for, planned, planned_over, dispatch_call}
+use Rattle.verbs.specs.Step.{planned, planned_over}
 
 module _ (api : Api) (types : List ServedShape) (m : History) (call : Call) (represents : ApiRepresents api types m) where
-  validated_is : dispatch_call (types_of api) (from_view api.store) call ≡ dispatch_call types (from_history m) call
-  validated_is =
-      ap (λ ts. dispatch_call ts (from_view api.store) call) represents.serves
-      ∙ ap (λ (v : View). dispatch_call types (from_view v) call) represents.store
-      ∙ over_seen types m represents.is_machine call
-
   pub planned_is : planned_over (types_of api) (from_view api.store) call ≡ planned types m call
-  planned_is = ap plan_for validated_is
+  planned_is =
+      ap (λ ts. planned_over ts (from_view api.store) call) represents.serves
+      ∙ ap (λ (v : View). planned_over types (from_view v) call) represents.store
+      ∙ sym (plans_by_views types m call represents.is_machine)
 
   -- each text that stands in the store is an object's
   pub represents_texts : AreTexts (types_of api) (objects_in api.store)

@@ -1,6 +1,6 @@
 -- What a call plans may come next; an apply without force changes no field that another manager owns, and an update takes from others only what it changes.
 use Rattle.std.proofs.Common.{◌≡◌, ℕ, suc, ◌<◌, ◌≤◌, Bool, true, false, cond, List, [], ◌∷◌, Option, Some, None, Ok, Err, refl, sym, ap, subst, ◌∙◌, inl, inr, is_some, not, ◌&&◌, ◌||◌, ap₂, true≢false, ltb-true, ltb-false}
-use Rattle.std.specs.Prelude.{codes, length, nat_le, nat_lt, slice_get, IfSome}
+use Rattle.std.specs.Prelude.{codes, length, nat_le, nat_lt, option_and_then, slice_get, IfSome}
 use Rattle.std.specs.FinMap as fin
 use Rattle.std.specs.List.{AllByRecursion}
 use Rattle.std.specs.FinSet as set
@@ -47,14 +47,18 @@ use Rattle.api_request.specs.Validated.{Validated, and_then, require}
 use Rattle.verbs.specs.Machine.{AreTexts, IsMachine, IsNamed, IsNext, IsOfTypes, IsSomeTextAt, IsTextAt, after, identity_of, no_state, state_by, state_of_existing, decoded_state, state_under}
 use Rattle.api_validation.specs.Naming.{labels_and_annotations_validated_by, metadata_object, names_validated, path_validated, required_name}
 use Rattle.api_validation.specs.Options.{options_validated}
-use Rattle.api_validation.specs.Parameters.{parameters_validated}
+use Rattle.api_validation.specs.Parameters.{parameters_for}
 use Rattle.verbs.specs.PromiseLaws.{AppliesKeepOthers, BodiesSayStates, ManagersOwnTheirSides, OthersKeepUnchanged, PlansAreShort, PlansComeNext, DecodesTo, StoredTextsDecode, StepsKeepMachines, TextsSayStates, UpdatesTakeChanges, WritesLeaveOtherSide}
 use Rattle.api_validation.specs.Size.{count_if_there, is_over, max_bytes, max_labels, size_validated}
 use Rattle.api_validation.specs.Shapes.{shape_validated}
-use Rattle.verbs.specs.Step.{Intent, applied_over, apply_plan, at_path, body_of, manager_for, conflict_refusal, Creation, created_as, creation_validated, delete_plan, deleted_over, get_plan, intent_of, object_at, dispatch_type, dispatch_scope, dispatch_call, plan_without_change, key_at, require_absent, dispatch_object, ownership_validated, planned, object_value_at, revisions_left, plan_put, plan_put_unless_same, text_at, require_found, require_object_of_status, plan_for, step, update_plan, updated_by, updated_over, version_checked, version_reached, collection_of, list_answered, list_plan, shown_by}
+use Rattle.verbs.specs.DryRuns.{is_dry_run}
+use Rattle.verbs.specs.Step.{Intent, applied_over, apply_plan, at_path, body_of, manager_for, conflict_refusal, Creation, created_as, creation_validated, delete_plan, deleted_over, get_plan, intent_of, object_at, dispatch_type, dispatch_scope, dispatch_call, plan_without_change, key_at, require_absent, dispatch_object, ownership_validated, planned, object_value_at, revisions_left, plan_put, plan_put_unless_same, text_at, require_found, require_object_of_status, plan_for, step, update_plan, updated_by, updated_over, version_checked, version_reached, collection_of, list_answered, list_plan, shown_by, parameters_at}
+use Rattle.verbs.proofs.Runs.{change_of_run}
 use Rattle.watchline.specs.Watches.{HistoryWindow, from_history}
 use Rattle.verbs.proofs.Changes.{machine_next, current_objects_next, texts_at}
 use Rattle.api_request.proofs.Checks.{change_in, held, no_err, ok_is, passed}
+use Rattle.discovery.specs.Paths.{text_in}
+use Rattle.verbs.proofs.Documents.{document_none}
 use Rattle.verbs.proofs.Contents.{intended_content}
 use Rattle.verbs.proofs.Sides.{IsStored, existing_stored, nothing_stored, owned_apart, owned_stored, represents_own, updated_by_apart, updated_stored}
 use Rattle.verbs.proofs.Said.{Shapes, printed_is_text, said_back, shapes_of}
@@ -124,11 +128,11 @@ subresource_in by (Ok i) = i.subresource
 subresource_in by (Err d) = by
 
 intended : (of : Expected) (how : Asked) (query : List ℕ) (body : Data) (i : Intent) (values : Values) → intent_of of how query body ≡ Ok i
-    → parameters_validated how query ≡ Ok values → (values.manager ≡ i.manager) × (values.is_forced ≡ i.is_forced)
+    → parameters_for of.served how query ≡ Ok values → (values.manager ≡ i.manager) × (values.is_forced ≡ i.is_forced)
 intended of how query body i values e is =
     let envelope = passed (envelope_of of body) _ i e in
     let shape = passed (shape_validated (content_of of.served.shape envelope.0.rest)) _ i envelope.2 in
-    let read = passed (parameters_validated how query) _ i shape.2 in
+    let read = passed (parameters_for of.served how query) _ i shape.2 in
     let same = ok_is values read.0 (sym is ∙ read.1) in
     (ap (λ v. v.manager) same ∙ ap manager_in read.2, ap (λ v. v.is_forced) same ∙ ap force_in read.2)
 
@@ -137,7 +141,7 @@ intended_by : (of : Expected) (how : Asked) (query : List ℕ) (body : Data) (i 
 intended_by of how query body i e =
     let envelope = passed (envelope_of of body) _ i e in
     let shape = passed (shape_validated (content_of of.served.shape envelope.0.rest)) _ i envelope.2 in
-    let read = passed (parameters_validated how query) _ i shape.2 in
+    let read = passed (parameters_for of.served how query) _ i shape.2 in
     ap (subresource_in of.subresource) read.2
 
 -- ---- an apply without force
@@ -250,13 +254,13 @@ module _ (types : List ServedShape) (current : ℕ) (objects : Objects) (shapes 
 
     delete_writes : D → (query : List ℕ) (body : Option Data) (p : Plan) → delete_plan t current (fin.get objects k) k query body ≡ Ok p → WritesBy types current objects D R p.change
     delete_writes d query body p e =
-        let version = passed (options_validated body) _ p e in
-        let values = passed (parameters_validated asked.Delete query) _ p version.2 in
+        let version = passed (options_validated t.is_discovered body) _ p e in
+        let values = passed (parameters_for t asked.Delete query) _ p version.2 in
         deleted_writes d version.0 p (fin.get objects k) refl values.2
 
     get_writes : (query : List ℕ) (p : Plan) → get_plan t current (fin.get objects k) k query ≡ Ok p → WritesBy types current objects D R p.change
     get_writes query p e =
-        let values = passed (parameters_validated asked.Get query) _ p e in
+        let values = passed (parameters_for t asked.Get query) _ p e in
         let o = passed (require_found t k.name (fin.get objects k)) _ p values.2 in
         let come = passed (version_reached values.0.version current) _ p o.2 in
         subst (WritesBy types current objects D R) (ap change_in come.2) tt
@@ -316,7 +320,7 @@ module _ (types : List ServedShape) (s : HistoryWindow) (shapes : Shapes types) 
   -- a list writes nothing
   list_writes : (t : ServedShape) (kind : ℕ) (namespace : Option (List ℕ)) → Writes (list_plan t s kind namespace call.query)
   list_writes t kind namespace p e =
-      let values = passed (parameters_validated asked.List call.query) _ p e in
+      let values = passed (parameters_for t asked.List call.query) _ p e in
       answered (shown_by s (collection_of t kind namespace) values.0 values.0.watch) values.2
     where
       answered : (r : Result Answer Refusal) → list_answered r ≡ Ok p → WritesBy types current stood (Unit {0}) (λ old new. Unit {0}) p.change
@@ -342,9 +346,9 @@ module _ (types : List ServedShape) (s : HistoryWindow) (shapes : Shapes types) 
   by_writes (of_namespace namespace) t serves p e = collection_writes call.target.method t namespace serves p e
   by_writes (of_object namespace name subresource) t serves p e = object_writes call.target.method subresource t (key_at call namespace name) serves p e
 
-  at_writes : (found : Option ServedShape) (scope : Option Scope) → slice_get types call.target.kind ≡ found → Writes (dispatch_type found scope s call)
+  at_writes : (found : Option ServedShape) (scope : Option Scope) → slice_get types call.target.kind ≡ found → Writes (dispatch_type types found scope s call)
   at_writes None scope is p e = no_err _ p e
-  at_writes (Some t) None is p e = no_err _ p e
+  at_writes (Some t) None is p e = subst (WritesBy types current stood (Unit {0}) (λ old new. Unit {0})) (document_none (option_and_then (text_in types) call.target.name) p e) tt
   at_writes (Some t) (Some scope) is p e = by_writes scope t is p e
 
   call_writes : (j : Validated Plan) → dispatch_call types s call ≡ j → WritesBy types current stood (Unit {0}) (λ old new. Unit {0}) (plan_for j).change
@@ -384,7 +388,9 @@ if_next types m D R None is = tt
 if_next types m D R (Some c) is = comes_next types m D R c is
 
 any_writes : (types : List ServedShape) (m : History) (call : Call) → IsMachine types m → IsJsonBody call.body → WritesBy types m.current (current_objects m) (Unit {0}) (λ old new. Unit {0}) (planned types m call).change
-any_writes types m call is json = call_writes types (from_history m) (shapes_of types is.shapes) is.stand call json (dispatch_call types (from_history m) call) refl
+any_writes types m call is json =
+    change_of_run (WritesBy types m.current (current_objects m) (Unit {0}) (λ old new. Unit {0})) (is_dry_run (slice_get types call.target.kind) call) (current_objects m)
+    (plan_for (dispatch_call types (from_history m) call)) tt (call_writes types (from_history m) (shapes_of types is.shapes) is.stand call json (dispatch_call types (from_history m) call) refl)
 
 pub plans_come_next : PlansComeNext
 plans_come_next types m call is json = if_next types m (Unit {0}) (λ old new. Unit {0}) (planned types m call).change (any_writes types m call is json)
@@ -442,21 +448,22 @@ module _ (types : List ServedShape) (s : HistoryWindow) (call : Call) (json : Is
     (alone : (t : ServedShape) (namespace : List ℕ) (p : Plan) → dispatch_scope (of_namespace namespace) w t s call ≡ Ok p → ⊥)
     (everywhere : (t : ServedShape) (p : Plan) → dispatch_scope of_all w t s call ≡ Ok p → ⊥)
     (object : (t : ServedShape) (k : Key) → dispatch_object w (subresource_of call.target.status) t s.current (object_at s k) k call.query call.body ≡ and_then (body_of call.body) (validated t k))
-    (keeps : (t : ServedShape) (k : Key) → slice_get types k.kind ≡ Some t → (body : Data) (p : Plan) → IsJson body → validated t k body ≡ Ok p → WritesBy types s.current (s.at s.current) ⊥ R p.change) where
+    (keeps : (t : ServedShape) (k : Key) → slice_get types k.kind ≡ Some t → slice_get types call.target.kind ≡ Some t → (body : Data) (p : Plan) → IsJson body → validated t k body ≡ Ok p
+    → WritesBy types s.current (s.at s.current) ⊥ R p.change) where
   by_method : (t : ServedShape) (scope : Scope) (p : Plan) → dispatch_scope scope call.target.method t s call ≡ Ok p → dispatch_scope scope w t s call ≡ Ok p
   by_method t scope p e = subst (λ (m : Method). dispatch_scope scope m t s call ≡ Ok p) is e
 
   in_keeps : (t : ServedShape) → slice_get types call.target.kind ≡ Some t → (namespace name : Option (List ℕ)) (p : Plan)
-      → dispatch_type (Some t) (scope_of namespace name call.target.status) s call ≡ Ok p → WritesBy types s.current (s.at s.current) ⊥ R p.change
+      → dispatch_type types (Some t) (scope_of namespace name call.target.status) s call ≡ Ok p → WritesBy types s.current (s.at s.current) ⊥ R p.change
   in_keeps t serves None None p e = absurd (everywhere t p (by_method t of_all p e))
-  in_keeps t serves None (Some name) p e = no_err _ p e
+  in_keeps t serves None (Some name) p e = subst (WritesBy types s.current (s.at s.current) ⊥ R) (document_none (option_and_then (text_in types) call.target.name) p e) tt
   in_keeps t serves (Some namespace) None p e = absurd (alone t namespace p (by_method t (of_namespace namespace) p e))
   in_keeps t serves (Some namespace) (Some name) p e =
       let k = key_at call namespace name in
       let body = passed (body_of call.body) (validated t k) p (sym (object t k) ∙ by_method t (of_object namespace name (subresource_of call.target.status)) p e) in
-      keeps t k serves body.0 p (body_json call.body body.0 json body.1) body.2
+      keeps t k serves serves body.0 p (body_json call.body body.0 json body.1) body.2
 
-  at_keeps : (found : Option ServedShape) → slice_get types call.target.kind ≡ found → (p : Plan) → dispatch_type found (scope_of call.target.namespace call.target.name call.target.status) s call ≡ Ok p
+  at_keeps : (found : Option ServedShape) → slice_get types call.target.kind ≡ found → (p : Plan) → dispatch_type types found (scope_of call.target.namespace call.target.name call.target.status) s call ≡ Ok p
       → WritesBy types s.current (s.at s.current) ⊥ R p.change
   at_keeps None serves p e = no_err _ p e
   at_keeps (Some t) serves p e = in_keeps t serves call.target.namespace call.target.name p e
@@ -502,25 +509,27 @@ module _ (types : List ServedShape) (m : History) (call : Call) (is : IsMachine 
   written_by = subresource_of call.target.status
 
   pub applies_keep : call.target.method ≡ Patch
-      → ((t : ServedShape) (k : Key) (body : Data) (i : Intent) → intent_of (at_path t k Patch written_by) asked.Apply call.query body ≡ Ok i → (before s : State) → OwnSides before
+      → ((t : ServedShape) (k : Key) → slice_get types call.target.kind ≡ Some t → (body : Data) (i : Intent) → intent_of (at_path t k Patch written_by) asked.Apply call.query body ≡ Ok i → (before s : State) → OwnSides before
       → owned_by_intent t before i ≡ Ok s → R before s)
       → (k : Key) → R (state_under types (current_objects m) k) (state_under types (current_objects (step types m call).1) k)
   applies_keep patch keeps =
-      after_keeps types m is R stays (plan_for (dispatch_call types (from_history m) call)).change
+      after_keeps types m is R stays (planned types m call).change
+      (change_of_run (WritesBy types m.current (current_objects m) ⊥ R) (is_dry_run (slice_get types call.target.kind) call) (current_objects m) (plan_for (dispatch_call types (from_history m) call)) tt
       (plan_keeps types (from_history m) call json R Patch (λ t k. apply_plan written_by t m.current (fin.get (current_objects m) k) k call.query) patch
       (λ t namespace p e. no_err _ p e) (λ t p e. no_err _ p e) (λ t k. refl)
-      (λ t k serves body p encodable e. apply_writes types m.current (current_objects m) (shapes_of types is.shapes) is.stand t k serves ⊥ R written_by call.query body p encodable (keeps t k body) e)
-      (dispatch_call types (from_history m) call) refl)
+      (λ t k serves is_called body p encodable e. apply_writes types m.current (current_objects m) (shapes_of types is.shapes) is.stand t k serves ⊥ R written_by call.query body p encodable (keeps t k is_called body) e)
+      (dispatch_call types (from_history m) call) refl))
 
   pub updates_keep : call.target.method ≡ Put
-      → ((t : ServedShape) (k : Key) (body : Data) (i : Intent) → intent_of (at_path t k Put written_by) asked.Put call.query body ≡ Ok i → (before : State) → OwnSides before → R before (updated_by i before))
+      → ((t : ServedShape) (k : Key) → slice_get types call.target.kind ≡ Some t → (body : Data) (i : Intent) → intent_of (at_path t k Put written_by) asked.Put call.query body ≡ Ok i → (before : State) → OwnSides before → R before (updated_by i before))
       → (k : Key) → R (state_under types (current_objects m) k) (state_under types (current_objects (step types m call).1) k)
   updates_keep put keeps =
-      after_keeps types m is R stays (plan_for (dispatch_call types (from_history m) call)).change
+      after_keeps types m is R stays (planned types m call).change
+      (change_of_run (WritesBy types m.current (current_objects m) ⊥ R) (is_dry_run (slice_get types call.target.kind) call) (current_objects m) (plan_for (dispatch_call types (from_history m) call)) tt
       (plan_keeps types (from_history m) call json R Put (λ t k. update_plan written_by t m.current (fin.get (current_objects m) k) k call.query) put
       (λ t namespace p e. no_err _ p e) (λ t p e. no_err _ p e) (λ t k. refl)
-      (λ t k serves body p encodable e. update_writes types m.current (current_objects m) (shapes_of types is.shapes) is.stand t k serves ⊥ R written_by call.query body p encodable (keeps t k body) e)
-      (dispatch_call types (from_history m) call) refl)
+      (λ t k serves is_called body p encodable e. update_writes types m.current (current_objects m) (shapes_of types is.shapes) is.stand t k serves ⊥ R written_by call.query body p encodable (keeps t k is_called body) e)
+      (dispatch_call types (from_history m) call) refl))
 
 -- ---- the laws
 
@@ -528,9 +537,9 @@ pub applies_keep_others : AppliesKeepOthers
 applies_keep_others types m call values is json patch read gentle =
     let by = subresource_of call.target.status in
     applies_keep types m call is json (AsApplied values.manager by) (λ s k p apart owns. (refl, owns)) patch
-    (λ t k body i intends before s sides owned.
+    (λ t k serves body i intends before s sides owned.
     let of = at_path t k Patch by in
-    let said = intended of asked.Apply call.query body i values intends read in
+    let said = intended of asked.Apply call.query body i values intends (sym (ap (λ (o : Option ServedShape). parameters_at o asked.Apply call.query) serves) ∙ read) in
     subst (λ w. AsApplied w by before s) (sym said.0)
     (subst (λ b. AsApplied i.manager b before s) (sym (intended_by of asked.Apply call.query body i intends))
     (owned_keeps _ before (own_part i.subresource i.content) (manager_for apply_operation i) i.is_forced s (sym said.1 ∙ gentle) owned)))
@@ -539,9 +548,9 @@ pub updates_take_changes : UpdatesTakeChanges
 updates_take_changes types m call values is json put read =
     let by = subresource_of call.target.status in
     updates_keep types m call is json (AsUpdated values.manager by) (λ s k p apart owns same. owns) put
-    (λ t k body i intends before sides.
+    (λ t k serves body i intends before sides.
     let of = at_path t k Put by in
-    let said = intended of asked.Put call.query body i values intends read in
+    let said = intended of asked.Put call.query body i values intends (sym (ap (λ (o : Option ServedShape). parameters_at o asked.Put call.query) serves) ∙ read) in
     subst (λ w. AsUpdated w by before (updated_by i before)) (sym said.0)
     (subst (λ b. AsUpdated i.manager b before (updated_by i before)) (sym (intended_by of asked.Put call.query body i intends))
     (updated_keeps before (beside_others i.subresource i.content before.content) (manager_for update_operation i))))
@@ -553,12 +562,12 @@ pub writes_leave_other_side : WritesLeaveOtherSide
 writes_leave_other_side types m call is json (inl patch) =
     let by = subresource_of call.target.status in
     applies_keep types m call is json (OtherSideStays by) (itself_stays by) patch
-    (λ t k body i intends before s sides owned.
+    (λ t k serves body i intends before s sides owned.
     subst (λ b. OtherSideStays b before s) (sym (intended_by (at_path t k Patch by) asked.Apply call.query body i intends)) (owned_apart (api_version_of t) before i s sides owned))
 writes_leave_other_side types m call is json (inr put) =
     let by = subresource_of call.target.status in
     updates_keep types m call is json (OtherSideStays by) (itself_stays by) put
-    (λ t k body i intends before sides.
+    (λ t k serves body i intends before sides.
     subst (λ b. OtherSideStays b before (updated_by i before)) (sym (intended_by (at_path t k Put by) asked.Put call.query body i intends)) (updated_by_apart before i))
 
 pub managers_own_their_sides : ManagersOwnTheirSides

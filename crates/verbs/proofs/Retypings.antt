@@ -12,7 +12,8 @@ use Rattle.api_types.specs.Retyping.{types_may_become}
 use Rattle.schema.specs.ObjectShape.{IsObjectShape}
 use Rattle.schema.specs.ObjectTest.{is_object_shape}
 use Rattle.api_types.specs.Refusals as schemas
-use Rattle.api_types.specs.TypesFile.{ServedShape, declared_types}
+use Rattle.api_types.specs.Discovered.{declared_after}
+use Rattle.api_types.specs.TypesFile.{ServedShape}
 use Rattle.api_types.proofs.Keeping.{itself}
 use Rattle.schema.proofs.ObjectTests.{test, tested}
 use Rattle.history.specs.History.{Change, History, Key, Object, last_revision, object_by, current_objects}
@@ -80,7 +81,7 @@ module _ (types : List ServedShape) (m : History) (next_types : List ServedShape
 
 may_serve : (types : List ServedShape) (m : History) (file : Data) (next_types : List ServedShape) → retyping types m file ≡ Ok next_types → MayServe types m next_types
 unfolding retyping
-may_serve types m file next_types h = by_file types m next_types (declared_types file) h
+may_serve types m file next_types h = by_file types m next_types (declared_after types file) h
 
 all_append : {X : Type 0} (P : X → Type 0) (xs ys : List X) → AllByRecursion P xs → AllByRecursion P ys → AllByRecursion P (xs ++ ys)
 all_append P [] ys all more = more
@@ -264,7 +265,7 @@ module _ (types : List ServedShape) (m : History) (is : IsMachine types m) where
   enough : m.current + length (changed_objects types types (current_objects m)) ≤ last_revision
   enough = subst (λ (es : Entries). m.current + length es ≤ last_revision) (sym none_changes) (let high : m.current ≤ last_revision = is.whole.high in omega (arith, high))
 
-  same_types : (file : Data) → declared_types file ≡ Ok types → retyping types m file ≡ Ok types
+  same_types : (file : Data) → declared_after types file ≡ Ok types → retyping types m file ≡ Ok types
   unfolding retyping
   same_types file declared =
       ap (if_declared types m) declared ∙ ap (λ b. cond b (if_compatible types m types) (Err not_types)) (shapes_tested types is.shapes)

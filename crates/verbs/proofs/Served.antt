@@ -12,6 +12,7 @@ use Rattle.api_types.specs.Retyping.{types_may_become}
 use Rattle.schema.specs.ObjectShape.{IsObjectShape}
 use Rattle.schema.specs.ObjectTest.{is_object_shape}
 use Rattle.api_types.specs.Refusals as schemas
+use Rattle.api_types.specs.Discovered.{declared_after, with_marks_of}
 use Rattle.api_types.specs.TypesFile.{ServedShape, declared_types}
 use Rattle.api_types.specs.Views.{FailsWith}
 use Rattle.api_types.specs.declared.fault.TypesFault.{TypesFault}
@@ -45,10 +46,10 @@ module _ (types : List ServedShape) (m : History) (file : Data) where
   -- a value that is no types file
   pub no_file : (e : schemas.Refusal) → declared_types file ≡ Err e → retyping types m file ≡ Err not_types
   unfolding retyping
-  no_file e is = ap (if_declared types m) is
+  no_file e is = ap (λ r. if_declared types m (schemas.and_then r (λ others. Ok (with_marks_of types others)))) is
 
   -- types of objects
-  pub declared_is : (next_types : List ServedShape) → declared_types file ≡ Ok next_types → All (λ t. IsObjectShape t.shape) next_types → retyping types m file ≡ if_compatible types m next_types
+  pub declared_is : (next_types : List ServedShape) → declared_after types file ≡ Ok next_types → All (λ t. IsObjectShape t.shape) next_types → retyping types m file ≡ if_compatible types m next_types
   unfolding retyping
   declared_is next_types is shaped =
       ap (if_declared types m) is ∙ ap (λ (b : Bool). cond b (if_compatible types m next_types) (Err not_types)) (are_shaped next_types shaped)
@@ -182,14 +183,14 @@ represents_retyped api new types next_types m file ws represents lawful are serv
 pub said_of : (P : List ServedShape → List ServedShape → Type 0) (ts us types next_types : List ServedShape) → ts ≡ types → us ≡ next_types → P ts us → P types next_types
 said_of P ts us types next_types old new is = subst (P types) new (subst (λ (l : List ServedShape). P l us) old is)
 
-pub retypes : (api new : Api) (types next_types : List ServedShape) (m : History) (file : Data) (ws : List Write) → ApiRepresents api types m → declared_types file ≡ Ok next_types → All (λ t. IsObjectShape t.shape) next_types
+pub retypes : (api new : Api) (types next_types : List ServedShape) (m : History) (file : Data) (ws : List Write) → ApiRepresents api types m → declared_after types file ≡ Ok next_types → All (λ t. IsObjectShape t.shape) next_types
     → if_compatible types m next_types ≡ Ok next_types → map write_of ws ≡ retyping_writes types next_types m → types_of new ≡ next_types → new.store ≡ written_all_in api.store (map write_of ws)
     → (let answer : Result (List ServedShape) RetypeRefusal = Ok next_types in retyping types m file ≡ answer) × ApiRepresents new next_types (retyped types next_types m)
 retypes api new types next_types m file ws represents declared shaped lawful are serves store =
     let is = declared_is types m file next_types declared shaped ∙ lawful in (is, represents_retyped api new types next_types m file ws represents is are serves store)
 
 -- refused for what is no types file, the refusal is that of the whole
-pub refused_file : (types next_types : List ServedShape) (m : History) (file : Data) (fault : RetypeFault) → declared_types file ≡ Ok next_types → All (λ t. IsObjectShape t.shape) next_types
+pub refused_file : (types next_types : List ServedShape) (m : History) (file : Data) (fault : RetypeFault) → declared_after types file ≡ Ok next_types → All (λ t. IsObjectShape t.shape) next_types
     → IfSome (retype_refusal fault) (λ why. if_compatible types m next_types ≡ Err why) → IfSome (retype_refusal fault) (λ why. retyping types m file ≡ Err why)
 refused_file types next_types m file fault declared shaped refused = go (retype_refusal fault) refused
   where

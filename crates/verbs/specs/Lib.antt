@@ -2,6 +2,7 @@ pub mod PlannerViews
 pub mod FaultViews
 pub mod ExistingViews
 pub mod Machine
+pub mod DryRuns
 pub mod Step
 pub mod Watching
 pub mod Retyping

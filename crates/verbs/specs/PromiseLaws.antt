@@ -1,6 +1,6 @@
 -- What a call leaves to the managers of other fields (Kubernetes docs, "Server-Side Apply", "Conflicts", "Transferring ownership"; "Custom
 -- Resources", "Status subresource"), and what it leaves of the machine.
-use Rattle.std.specs.Prelude.{◌≡◌, ◌⊎◌, ◌≤◌, ℕ, false, List, length, Option, Some, IfSome, option_and_then, slice_get}
+use Rattle.std.specs.Prelude.{◌≡◌, ◌⊎◌, ◌≤◌, ℕ, false, List, length, Option, Some, None, IfSome, option_and_then, slice_get, true}
 use Rattle.std.specs.Option.{option_or}
 use Rattle.std.specs.declared.result.Result.TheVariants.{Ok, Err}
 use Rattle.std.specs.FinMap as fin
@@ -8,7 +8,9 @@ use Rattle.std.specs.List.{AllByRecursion}
 use Rattle.params.specs.Values.{Values}
 use Rattle.params.specs.declared.params.Asked.TheVariants as asked
 use Rattle.serde_json.specs.Data.{Data}
-use Rattle.api_types.specs.TypesFile.{ServedShape, declared_types}
+use Rattle.api_types.specs.Discovered.{are_discovered, declared_after}
+use Rattle.api_types.specs.TypesFile.{ServedShape}
+use Rattle.discovery.specs.Paths.{text_in}
 use Rattle.fieldpath.specs.Paths.{PathTexts}
 use Rattle.history.specs.History.{Change, Key, Object, History, compacted_to, fresh, last_revision, current_objects, state_at}
 use Rattle.history.specs.View.{view}
@@ -23,13 +25,13 @@ use Rattle.api_request.specs.Calls.{Call, subresource_of}
 use Rattle.api_validation.specs.Envelope.{name_in}
 use Rattle.api_request.specs.Json.{IsJsonBody}
 use Rattle.verbs.specs.Machine.{AreObjectTypes, IsMachine, IsNext, IsSomeTextAt, IsTextAt, decoded_state, state_under}
-use Rattle.api_validation.specs.Parameters.{parameters_validated}
 use Rattle.verbs.specs.Retyping.{is_changed, retyped, retyping}
 use Rattle.api_validation.specs.Size.{max_bytes}
 use Rattle.lists.specs.declared.refusal.Refusal.TheVariants.{Expired}
 use Rattle.watchline.specs.Lines.{expired_message, expired_value}
 use Rattle.watchline.specs.Watches.{from_history}
-use Rattle.verbs.specs.Step.{list_refusal, planned, planned_in, step, steps, dispatch_call}
+use Rattle.verbs.specs.Step.{document_shown, list_refusal, plan_for, planned, planned_in, route_not_found, step, steps, dispatch_call, parameters_at}
+use Rattle.verbs.specs.DryRuns.{is_dry_run}
 use Rattle.api_request.specs.Status.{CallRefusal, call_refusal_value}
 
 -- what a call plans may come next, so the machine is one after each call whose body is a value that a JSON text spells
@@ -84,7 +86,7 @@ StoredTextsDecode =
 abbrev pub AppliesKeepOthers : Type 0
 AppliesKeepOthers =
     (types : List ServedShape) (m : History) (call : Call) (values : Values) → IsMachine types m → IsJsonBody call.body
-    → call.target.method ≡ Patch → parameters_validated asked.Apply call.query ≡ Ok values → values.is_forced ≡ false
+    → call.target.method ≡ Patch → parameters_at (slice_get types call.target.kind) asked.Apply call.query ≡ Ok values → values.is_forced ≡ false
     → (k : Key) → OthersKeep (state_under types (current_objects m) k) (state_under types (current_objects (step types m call).1) k) (manager_by values.manager apply_operation (subresource_of call.target.status))
 
 -- each path that another manager owned, and that has the value that it had, is still owned by that manager
@@ -95,7 +97,7 @@ OthersKeepUnchanged old new m = (k : Manager) (p : PathTexts) → ¬ (k ≡ m) �
 abbrev pub UpdatesTakeChanges : Type 0
 UpdatesTakeChanges =
     (types : List ServedShape) (m : History) (call : Call) (values : Values) → IsMachine types m → IsJsonBody call.body
-    → call.target.method ≡ Put → parameters_validated asked.Put call.query ≡ Ok values
+    → call.target.method ≡ Put → parameters_at (slice_get types call.target.kind) asked.Put call.query ≡ Ok values
     → (k : Key) → OthersKeepUnchanged (state_under types (current_objects m) k) (state_under types (current_objects (step types m call).1) k) (manager_by values.manager update_operation (subresource_of call.target.status))
 
 -- A PATCH and a PUT change only what their subresource writes: after the call, whatever it answers, each other path of each object has
@@ -122,6 +124,15 @@ ErrorsAreRefusals = (revision compacted : ℕ) → expired_value (expired_messag
 abbrev pub RefusalsChangeNothing : Type 0
 RefusalsChangeNothing =
     (types : List ServedShape) (m : History) (call : Call) (d : CallRefusal) → dispatch_call types (from_history m) call ≡ Err d → (step types m call).1 ≡ m
+
+-- a dry run changes nothing, ..
+abbrev pub DryRunsChangeNothing : Type 0
+DryRunsChangeNothing = (types : List ServedShape) (m : History) (call : Call) → is_dry_run (slice_get types call.target.kind) call ≡ true → (step types m call).1 ≡ m
+
+-- .. and any other call comes to what its checks plan
+abbrev pub OthersAreRun : Type 0
+OthersAreRun =
+    (types : List ServedShape) (m : History) (call : Call) → is_dry_run (slice_get types call.target.kind) call ≡ false → planned types m call ≡ plan_for (dispatch_call types (from_history m) call)
 
 -- a GET changes nothing
 abbrev pub GetsChangeNothing : Type 0
@@ -163,6 +174,18 @@ RetypingsLeaveTexts =
     (types next_types : List ServedShape) (m : History) (file : Data) → IsMachine types m → retyping types m file ≡ Ok next_types
     → (k : Key) (o : Object) → fin.get (current_objects m) k ≡ Some o → is_changed types next_types (k, o) ≡ false → fin.get (current_objects (retyped types next_types m)) k ≡ Some o
 
--- types may stay as they are, and then nothing changes
+-- types may stay as they are, discovered or not, and then nothing changes
 abbrev pub SameTypesChangeNothing : Type 0
-SameTypesChangeNothing = (types : List ServedShape) (m : History) (file : Data) → IsMachine types m → declared_types file ≡ Ok types → (retyping types m file ≡ Ok types) × (retyped types types m ≡ m)
+SameTypesChangeNothing = (types : List ServedShape) (m : History) (file : Data) → IsMachine types m → declared_after types file ≡ Ok types → (retyping types m file ≡ Ok types) × (retyped types types m ≡ m)
+
+-- ---- documents
+
+-- a document is answered by the types alone, and changes nothing
+abbrev pub DocumentsOfTypes : Type 0
+DocumentsOfTypes =
+    (types : List ServedShape) (m : History) (call : Call) (t : ServedShape) → slice_get types call.target.kind ≡ Some t → call.target.namespace ≡ None → (path : List ℕ) → call.target.name ≡ Some path
+    → planned types m call ≡ plan_for (document_shown (text_in types path))
+
+-- where documents don't tell of the types, there is none: only calls on objects are served
+abbrev pub NoDocuments : Type 0
+NoDocuments = (types : List ServedShape) (path : List ℕ) → are_discovered types ≡ false → document_shown (text_in types path) ≡ route_not_found

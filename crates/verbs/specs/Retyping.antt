@@ -10,7 +10,8 @@ use Rattle.serde_json.specs.Data.{Data}
 use Rattle.api_types.specs.Retyping.{types_may_become}
 use Rattle.schema.specs.ObjectTest.{is_object_shape}
 use Rattle.api_types.specs.Refusals as schemas
-use Rattle.api_types.specs.TypesFile.{ServedShape, declared_types}
+use Rattle.api_types.specs.Discovered.{declared_after}
+use Rattle.api_types.specs.TypesFile.{ServedShape}
 use Rattle.history.specs.History.{Key, Object, Objects, History, last_revision, current_objects}
 use Rattle.history.specs.Writes.{written_all}
 use Rattle.ownership.specs.Carry.{carried_state}
@@ -74,6 +75,6 @@ abbrev pub if_declared : List ServedShape → History → Result (List ServedSha
 if_declared types m (Ok next_types) = if list_all (λ t. is_object_shape t.shape) next_types then if_compatible types m next_types else Err not_types
 if_declared types m (Err e) = Err not_types
 
--- the types that are served where a types file is to take the place of these
+-- the types that are served where a types file is to take the place of these; they stay discovered if these are
 unfoldable pub retyping : List ServedShape → History → Data → Result (List ServedShape) RetypeRefusal
-retyping types m file = if_declared types m (declared_types file)
+retyping types m file = if_declared types m (declared_after types file)

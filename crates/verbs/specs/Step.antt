@@ -1,6 +1,6 @@
 -- The step: what a call answers at a machine, and the machine after it, with the checks in their order
 -- (Kubernetes docs, "Server-Side Apply"; "Kubernetes API Concepts", "Resource versions"; "Custom Resources", "Status subresource").
-use Rattle.std.specs.Prelude.{ℕ, suc, Bool, ◌==◌, nat_le, nat_lt, List, [], ◌∷◌, ◌++◌, length, Option, Some, None, slice_get, if◌then◌else◌, codes, decimal}
+use Rattle.std.specs.Prelude.{ℕ, suc, Bool, ◌==◌, nat_le, nat_lt, List, [], ◌∷◌, ◌++◌, length, Option, Some, None, option_and_then, slice_get, if◌then◌else◌, codes, decimal}
 use Rattle.std.specs.declared.result.Result.{Result}
 use Rattle.std.specs.declared.result.Result.TheVariants.{Ok, Err}
 use Rattle.std.specs.FinMap as fin
@@ -9,6 +9,7 @@ use Rattle.serde_json.specs.Written.{compact_text}
 use Rattle.fieldpath.specs.Elements.{shown}
 use Rattle.pathmap.specs.Contents.{Content}
 use Rattle.api_types.specs.TypesFile.{ServedShape}
+use Rattle.discovery.specs.Paths.{text_in}
 use Rattle.typed.specs.Reading.{content_of}
 use Rattle.objects.specs.declared.manager.Operation.{Operation}
 use Rattle.objects.specs.declared.manager.Subresource.{Subresource}
@@ -39,10 +40,11 @@ use Rattle.api_request.specs.declared.reason.Reason.TheVariants as reason
 use Rattle.api_request.specs.Reasons.{code_of}
 use Rattle.api_request.specs.Status.{CallRefusal, call_refusal_value}
 use Rattle.api_request.specs.Validated.{Validated, and_then, call_refusal, refused_for, require}
+use Rattle.verbs.specs.DryRuns.{is_dry_run, run_by}
 use Rattle.verbs.specs.Machine.{after, identity_of, no_state, state_of_existing, decoded_state}
-use Rattle.api_request.specs.Calls.{Scope, of_all, of_namespace, of_object, scope_of, Call, Answer, Plan}
+use Rattle.api_request.specs.Calls.{Scope, of_all, of_namespace, of_object, scope_of, Call, Answer, Plan, Target}
 use Rattle.api_validation.specs.Envelope.{Expected, api_version_of, envelope_of, name_in}
-use Rattle.api_validation.specs.Parameters.{parameters_validated}
+use Rattle.api_validation.specs.Parameters.{parameters_for, parameters_validated}
 use Rattle.api_validation.specs.Naming.{labels_and_annotations_validated_by, names_validated, required_name}
 use Rattle.api_validation.specs.Options.{options_validated}
 use Rattle.api_validation.specs.Shapes.{shape_validated}
@@ -120,8 +122,13 @@ abbrev pub intent_of : Expected → Asked → List ℕ → Data → Validated In
 intent_of of asked query body =
     and_then (envelope_of of body) (λ e.
     and_then (shape_validated (content_of of.served.shape e.rest)) (λ content.
-    and_then (parameters_validated asked query) (λ values.
+    and_then (parameters_for of.served asked query) (λ values.
     Ok (record { version = e.version; content = content; manager = values.manager; subresource = of.subresource; is_forced = values.is_forced; rest = e.rest }))))
+
+-- the parameters of a call on a type; without one they are read word for word
+abbrev pub parameters_at : Option ServedShape → Asked → List ℕ → Validated Values
+parameters_at None asked query = parameters_validated asked query
+parameters_at (Some t) asked query = parameters_for t asked query
 
 -- a write to the path of an object names that object
 abbrev pub at_path : ServedShape → Key → Method → Subresource → Expected
@@ -204,7 +211,7 @@ version_reached (Some n) current = require (nat_le n current) Timeout (too_large
 -- parameters, whether the object is there, version
 abbrev pub get_plan : ServedShape → ℕ → Option Object → Key → List ℕ → Validated Plan
 get_plan t current existing k query =
-    and_then (parameters_validated asked.Get query) (λ values.
+    and_then (parameters_for t asked.Get query) (λ values.
     and_then (require_found t k.name existing) (λ o.
     and_then (version_reached values.version current) (λ u.
     Ok (plan_without_change o))))
@@ -240,7 +247,7 @@ shown_by s of values (Some watch) = watch_shown (started s of.kind of.namespace 
 -- parameters, then the revision
 abbrev pub list_plan : ServedShape → HistoryWindow → ℕ → Option (List ℕ) → List ℕ → Validated Plan
 list_plan t s kind namespace query =
-    and_then (parameters_validated asked.List query) (λ values. list_answered (shown_by s (collection_of t kind namespace) values values.watch))
+    and_then (parameters_for t asked.List query) (λ values. list_answered (shown_by s (collection_of t kind namespace) values values.watch))
 
 -- ---- creation and update ("Server-Side Apply", "Comparison with Client-Side Apply": they own what they change)
 
@@ -309,8 +316,8 @@ deleted_over t current k existing version =
 -- the body's options, parameters, what `deleted_over` checks
 abbrev pub delete_plan : ServedShape → ℕ → Option Object → Key → List ℕ → Option Data → Validated Plan
 delete_plan t current existing k query body =
-    and_then (options_validated body) (λ version.
-    and_then (parameters_validated asked.Delete query) (λ values.
+    and_then (options_validated t.is_discovered body) (λ version.
+    and_then (parameters_for t asked.Delete query) (λ values.
     deleted_over t current k existing version))
 
 -- ---- calls
@@ -350,15 +357,24 @@ dispatch_scope (of_object namespace name subresource) how t s call =
     dispatch_object how subresource t s.current (object_at s (key_at call namespace name)) (key_at call namespace name) call.query call.body
 dispatch_scope scope how t s call = method_not_allowed
 
--- where a type has the number, and the target names objects. A target is `admit`'s, which gives one of `/status` for a type that has it
--- alone; one that is made by hand of another type is served as the object
-abbrev pub dispatch_type : Option ServedShape → Option Scope → HistoryWindow → Call → Validated Plan
-dispatch_type None scope s call = route_not_found
-dispatch_type (Some t) None s call = route_not_found
-dispatch_type (Some t) (Some scope) s call = dispatch_scope scope call.target.method t s call
+-- a document's text, if there is one
+abbrev pub document_shown : Option (List ℕ) → Validated Plan
+document_shown None = route_not_found
+document_shown (Some text) = Ok (record { answer = record { status = 200; body = text; watch = None }; change = None })
+
+-- the document of discovery whose path is the target's name, of the types as they are now
+abbrev pub document_plan : List ServedShape → Target → Validated Plan
+document_plan types target = document_shown (option_and_then (text_in types) target.name)
+
+-- where a type has the number, and the target names objects, or else a document. A target is `admit`'s, which gives one of `/status` for a
+-- type that has it alone, and a document with GET alone; one that is made by hand of another type is served as the object
+abbrev pub dispatch_type : List ServedShape → Option ServedShape → Option Scope → HistoryWindow → Call → Validated Plan
+dispatch_type types None scope s call = route_not_found
+dispatch_type types (Some t) None s call = document_plan types call.target
+dispatch_type types (Some t) (Some scope) s call = dispatch_scope scope call.target.method t s call
 
 abbrev pub dispatch_call : List ServedShape → HistoryWindow → Call → Validated Plan
-dispatch_call types s call = dispatch_type (slice_get types call.target.kind) (scope_of call.target.namespace call.target.name call.target.status) s call
+dispatch_call types s call = dispatch_type types (slice_get types call.target.kind) (scope_of call.target.namespace call.target.name call.target.status) s call
 
 -- a refusal is answered by its Status, and changes nothing
 abbrev pub refused : CallRefusal → Plan
@@ -368,9 +384,9 @@ abbrev pub plan_for : Validated Plan → Plan
 plan_for (Ok p) = p
 plan_for (Err d) = refused d
 
--- the answer of a call, and the change that it makes
+-- the answer of a call, and the change that it makes, unless it is a dry run
 abbrev pub planned_over : List ServedShape → HistoryWindow → Call → Plan
-planned_over types s call = plan_for (dispatch_call types s call)
+planned_over types s call = run_by (is_dry_run (slice_get types call.target.kind) call) (s.at s.current) (plan_for (dispatch_call types s call))
 
 -- at a machine
 abbrev pub planned : List ServedShape → History → Call → Plan

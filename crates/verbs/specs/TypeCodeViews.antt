@@ -78,8 +78,9 @@ coded_text = coded_list coded_ℕ
 
 pub coded_type : Coded ServedShape
 coded_type =
-    code_by (List ℕ × (List ℕ × (List ℕ × (List ℕ × Shape)))) (coded× coded_text (coded× coded_text (coded× coded_text (coded× coded_text coded_shape))))
-    (λ t. (t.group, (t.version, (t.kind, (t.plural, t.shape))))) (λ p. record { group = p.0; version = p.1.0; kind = p.1.1.0; plural = p.1.1.1.0; shape = p.1.1.1.1 }) (λ _. refl)
+    code_by (List ℕ × (List ℕ × (List ℕ × (List ℕ × (Bool × Shape))))) (coded× coded_text (coded× coded_text (coded× coded_text (coded× coded_text (coded× coded_bool coded_shape)))))
+    (λ t. (t.group, (t.version, (t.kind, (t.plural, (t.is_discovered, t.shape))))))
+    (λ p. record { group = p.0; version = p.1.0; kind = p.1.1.0; plural = p.1.1.1.0; shape = p.1.1.1.1.1; is_discovered = p.1.1.1.1.0 }) (λ _. refl)
 
 abbrev pub coded_types : Coded (List ServedShape)
 coded_types = coded_list coded_type

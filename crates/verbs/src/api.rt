@@ -192,7 +192,7 @@ impl Api {
 
     /// Serves other types from here on, those of a types file: what is said of each may differ in sets, map lists and granular
     /// maps that have become atomic, and in nothing else. Each object whose text changes gets the next revision, in the order
-    /// of types, namespaces and names. Refused, or out of memory, it changes nothing.
+    /// of types, namespaces and names. Discovered types stay discovered. Refused, or out of memory, it changes nothing.
     pub fn retype(&mut self, file: &Value) -> Result<(), RetypeFault>
         ensures ok { (types : List ServedShape) (m : History) → ApiRepresents self.old types m
             → OnOk result ((next_types : List ServedShape) × (retyping types m (value.view file.now) ≡ Ok next_types) × ApiRepresents self.new next_types (retyped types next_types m)) }
@@ -203,8 +203,9 @@ impl Api {
         ensures readable { (types : List ServedShape) (m : History) → ApiRepresents self.old types m → result ≢ Err (RetypeFault.Failed Fault.Unreadable) }
         ensures unchanged { OnErr result (self.new ≡ self.old) }
     {
-        let catalog = catalog_in(self.alloc, file)?;
-        let (old, new) = (self.catalog.types(), catalog.types());
+        let old = self.catalog.types();
+        let catalog = catalog_in(self.alloc, file, old)?;
+        let new = catalog.types();
         let writes = writes_under(self.alloc, &mut self.store, old, new)?;
         write_all(&mut self.store, &writes)?;
         self.catalog = catalog;

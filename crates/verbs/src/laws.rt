@@ -1,7 +1,7 @@
 //! Laws of calls (the step of a machine); those of paths stand in `api_request`. Each function does nothing; what it promises is
 //! the law.
 
-ghost use Rattle.verbs.specs.PromiseLaws.{AppliesKeepOthers, BodiesSayStates, CallsChangeOneObject, CallsKeepMachines, CompactionsKeepMachines, ErrorsAreRefusals, GetsChangeNothing, MachinesBegin, ManagersOwnTheirSides, PlansAreShort, PlansByViews, PlansComeNext, RefusalsChangeNothing, RetypingsCarryObjects, RetypingsKeepMachines, RetypingsLeaveTexts, SameTypesChangeNothing, StoredTextsDecode, StepsKeepMachines, TextsSayStates, UpdatesTakeChanges, WritesLeaveOtherSide};
+ghost use Rattle.verbs.specs.PromiseLaws.{AppliesKeepOthers, BodiesSayStates, CallsChangeOneObject, CallsKeepMachines, CompactionsKeepMachines, DocumentsOfTypes, ErrorsAreRefusals, GetsChangeNothing, MachinesBegin, ManagersOwnTheirSides, NoDocuments, PlansAreShort, PlansByViews, PlansComeNext, RefusalsChangeNothing, RetypingsCarryObjects, RetypingsKeepMachines, RetypingsLeaveTexts, SameTypesChangeNothing, StoredTextsDecode, StepsKeepMachines, TextsSayStates, UpdatesTakeChanges, WritesLeaveOtherSide, DryRunsChangeNothing, OthersAreRun};
 
 /// A machine begins without a change. What a call plans may come next, and a text in it is no longer than an object may
 /// be; a machine stays one over each call, over calls one after the other, and over a compaction.
@@ -51,6 +51,12 @@ pub fn calls_change_one_object()
     ensures one { CallsChangeOneObject }
 {}
 
+/// A dry run changes nothing; any other call comes to what its checks plan.
+pub fn dry_runs_change_nothing()
+    ensures dry { DryRunsChangeNothing }
+    ensures others { OthersAreRun }
+{}
+
 /// The error that ends a watch has the Status with which a list of the same revision is refused.
 pub fn errors_are_refusals()
     ensures { ErrorsAreRefusals }
@@ -63,4 +69,11 @@ pub fn other_types_carry()
     ensures carry { RetypingsCarryObjects }
     ensures stay { RetypingsLeaveTexts }
     ensures same { SameTypesChangeNothing }
+{}
+
+/// A document of discovery is a function of the types as they are at the moment. Where they aren't discovered, there is none:
+/// a call that names no objects is refused, as if there were no discovery.
+pub fn documents_tell_types()
+    ensures types { DocumentsOfTypes }
+    ensures none { NoDocuments }
 {}

@@ -14,6 +14,7 @@ mod api;
 mod cached;
 mod catalog;
 mod conflicts;
+mod dry_run;
 mod existing;
 mod fault;
 mod identity;
@@ -32,6 +33,7 @@ mod writing;
 pub use api::Api;
 pub use fault::{Fault, RetypeFault, STORE_FAILED};
 pub use laws::{
-    applies_keep_others, calls_change_one_object, errors_are_refusals, machines_stay,
-    other_types_carry, plans_by_views, status_is_apart, texts_say_states, updates_take_changes,
+    applies_keep_others, calls_change_one_object, documents_tell_types, dry_runs_change_nothing,
+    errors_are_refusals, machines_stay, other_types_carry, plans_by_views, status_is_apart,
+    texts_say_states, updates_take_changes,
 };

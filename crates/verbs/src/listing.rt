@@ -90,7 +90,7 @@ impl Planner<'_> {
         ensures readable { result ≢ Err Fault.Unreadable }
         ensures same { store.new ≡ store.old }
     {
-        let params = match read_parameters(self.alloc, Asked::List, &self.call.query) {
+        let params = match read_parameters(self.alloc, self.served, Asked::List, &self.call.query) {
             Ok(params) => params,
             Err(call_error) => return plan_for(self.alloc, Err(call_error)),
         };

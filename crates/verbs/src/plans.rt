@@ -11,22 +11,24 @@ ghost use Rattle.verbs.specs.ExistingViews.{IsWellDecoded, object_in};
 ghost use Rattle.verbs.specs.Machine.{AreTexts, IsReadable};
 ghost use Rattle.verbs.specs.PlannerViews.{IsSoundPlanner, call_of_entry, type_of};
 ghost use Rattle.verbs.specs.CachedStateViews.{IsCoherent, IsCoherentAt};
-ghost use Rattle.api_request.specs.Views.{Returns, call_of, plan_of, scope_seen};
+ghost use Rattle.api_request.specs.Views.{Returns, call_of, plan_of, scope_seen, target_of};
 ghost use Rattle.verbs.specs.Views.{objects_in};
-ghost use Rattle.verbs.specs.Step.{body_of, create_plan, get_plan, key_at, plan_for, planned_over, dispatch_scope, dispatch_write};
+ghost use Rattle.verbs.specs.Step.{body_of, create_plan, document_plan, get_plan, key_at, plan_for, planned_over, dispatch_call, dispatch_scope, dispatch_write};
 ghost use Rattle.api_request.specs.Validated.{Validated, and_then};
 ghost use Rattle.verbs.specs.WritePlanViews.{CachesCoherently, plan_in};
 ghost use Rattle.watchline.specs.Watches.{from_view};
 
-use crate::answering::{plan_for, refused_for};
+use crate::answering::{ok_answer, plan_for, refused_for};
 use crate::cached::{CachedState, WritePlan};
 use crate::catalog::Catalog;
+use crate::dry_run::run;
 use crate::existing::{Existing, existing_at};
 use crate::fault::Fault;
 use crate::planner::Planner;
 use crate::validating::Creation;
-use api_request::{Call, CallError, Method, NO_PATH, NOT_SERVED, Plan, Reason, Scope};
+use api_request::{Call, CallError, Method, NO_PATH, NOT_SERVED, Plan, Reason, Scope, Target};
 use api_types::Types;
+use discovery::text_in;
 use history::Key;
 use ownership::Subresource;
 use revstore::Store;
@@ -195,8 +197,25 @@ impl Planner<'_> {
     }
 }
 
-/// The plan of a call, where this is cached of the object that it is of.
-fn planned_over(
+/// The plan of a call on a document of discovery, whose path is the name of its target.
+fn plan_document(alloc: Global, types: &Types, target: &Target) -> Result<Plan, Fault>
+    ensures planned { IfOk result (λ p. plan_of p ≡ plan_for (document_plan (types_view types.now) (target_of target.now))) }
+    ensures readable { result ≢ Err Fault.Unreadable }
+{
+    let Some(path) = &target.name else {
+        return refused_for(alloc, Reason::NotFound, NO_PATH);
+    };
+    match text_in(alloc, types, path.as_str())? {
+        Some(text) => Ok(Plan {
+            answer: ok_answer(text, None),
+            change: None,
+        }),
+        None => refused_for(alloc, Reason::NotFound, NO_PATH),
+    }
+}
+
+/// The plan of a call by its checks, where this is cached of the object that it is of.
+fn dispatch_call(
     alloc: Global,
     all: &Types,
     store: &mut Store,
@@ -204,7 +223,7 @@ fn planned_over(
     known: &mut Option<CachedState>,
 ) -> Result<Plan, Fault>
     requires { IfSome known.old (IsCoherentAt (types_view all.now) call.now.target.kind) }
-    ensures planned { IfOk result (λ p. plan_of p ≡ planned_over (types_view all.now) (from_view store.old) (call_of call.now)) }
+    ensures planned { IfOk result (λ p. plan_of p ≡ plan_for (dispatch_call (types_view all.now) (from_view store.old) (call_of call.now))) }
     ensures readable { AreTexts (types_view all.now) (objects_in store.old) → result ≢ Err Fault.Unreadable }
     ensures coherent { IfSome known.new (IsCoherentAt (types_view all.now) call.now.target.kind) }
     ensures same { store.new ≡ store.old }
@@ -213,7 +232,7 @@ fn planned_over(
         return refused_for(alloc, Reason::NotFound, NO_PATH);
     };
     let Some(scope) = call.target.scope() else {
-        return refused_for(alloc, Reason::NotFound, NO_PATH);
+        return plan_document(alloc, all, &call.target);
     };
     let planner = Planner {
         alloc,
@@ -237,7 +256,7 @@ pub(crate) fn planned(
     ensures same { store.new ≡ store.old }
 {
     let mut known = catalog.take(&call.target);
-    let plan = planned_over(alloc, catalog.types(), store, call, &mut known)?;
+    let plan = dispatch_call(alloc, catalog.types(), store, call, &mut known)?;
     catalog.keep(&call.target, &plan, known);
-    Ok(plan)
+    run(alloc, catalog.types(), store, call, plan)
 }

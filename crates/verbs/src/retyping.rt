@@ -8,7 +8,8 @@ ghost use Rattle.serde_json.specs.View as value;
 ghost use Rattle.schema.specs.ObjectShape.{IsObjectShape};
 ghost use Rattle.api_types.specs.Served as types;
 ghost use Rattle.api_types.specs.Served.{types_view};
-ghost use Rattle.api_types.specs.TypesFile.{ServedShape, declared_types};
+ghost use Rattle.api_types.specs.Discovered.{declared_after};
+ghost use Rattle.api_types.specs.TypesFile.{ServedShape};
 ghost use Rattle.typed.specs.Fitting.{IsContent};
 ghost use Rattle.objects.specs.WellTyped.{IsWellTypedState};
 ghost use Rattle.objects.specs.Views.{state_of};
@@ -218,27 +219,32 @@ fn file_fault(fault: TypesFault) -> RetypeFault
     }
 }
 
-fn types_in(alloc: Global, file: &Value) -> Result<Types, RetypeFault>
-    ensures types { IfOk result (λ t. declared_types (value.view file.now) ≡ Ok (types_view t)) }
+/// The types of a types file that are to follow others.
+fn types_in(alloc: Global, file: &Value, others: &Types) -> Result<Types, RetypeFault>
+    ensures types { IfOk result (λ t. declared_after (types_view others.now) (value.view file.now) ≡ Ok (types_view t)) }
     ensures refused { (served : List ServedShape) (m : History) → IfErr result (λ e. IfSome (retype_refusal e) (λ why. retyping served m (value.view file.now) ≡ Err why)) }
     ensures reported { IfErr result (λ e. IfSome (reported_of_file e) (IsFileFault (value.view file.now))) }
     ensures readable { result ≢ Err (RetypeFault.Failed Fault.Unreadable) }
 {
     match Types::read(alloc, file) {
-        Ok(types) => Ok(types),
+        Ok(types) => Ok(types.with_marks_of(others)),
         Err(fault) => Err(file_fault(fault)),
     }
 }
 
-/// The types of a types file, of whose objects nothing is cached.
-pub(crate) fn catalog_in(alloc: Global, file: &Value) -> Result<Catalog, RetypeFault>
-    ensures types { IfOk result (λ c. declared_types (value.view file.now) ≡ Ok c) }
+/// The types of a types file that are to follow others, of whose objects nothing is cached.
+pub(crate) fn catalog_in(
+    alloc: Global,
+    file: &Value,
+    others: &Types,
+) -> Result<Catalog, RetypeFault>
+    ensures types { IfOk result (λ c. declared_after (types_view others.now) (value.view file.now) ≡ Ok c) }
     ensures shaped { IfOk result (λ c. All (λ t. IsObjectShape t.shape) c) }
     ensures refused { (served : List ServedShape) (m : History) → IfErr result (λ e. IfSome (retype_refusal e) (λ why. retyping served m (value.view file.now) ≡ Err why)) }
     ensures reported { IfErr result (λ e. IfSome (reported_of_file e) (IsFileFault (value.view file.now))) }
     ensures readable { result ≢ Err (RetypeFault.Failed Fault.Unreadable) }
 {
-    let types = types_in(alloc, file)?;
+    let types = types_in(alloc, file, others)?;
     types.types_are_of_objects();
     match Catalog::new(alloc, types) {
         Ok(catalog) => Ok(catalog),

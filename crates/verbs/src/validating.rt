@@ -101,7 +101,7 @@ impl<'a> Planner<'a> {
     {
         let version = validate(self.alloc, body, expected)?;
         let content = read_config(self.alloc, expected.served, body)?;
-        let params = read_parameters(self.alloc, asked, &self.call.query)?;
+        let params = read_parameters(self.alloc, expected.served, asked, &self.call.query)?;
         Ok(Intent {
             version,
             content,
@@ -334,8 +334,8 @@ impl<'a> Planner<'a> {
             Returns plan_in result (delete_plan (type_of self.entry) self.entry.current (object_in existing.now) (key_of key) c.query c.body) }
         ensures coherent { IfOk result (CachesCoherently (type_of self.entry)) }
     {
-        let version = validate_options(self.alloc, self.call.body.as_ref())?;
-        read_parameters(self.alloc, Asked::Delete, &self.call.query)?;
+        let version = validate_options(self.alloc, self.served, self.call.body.as_ref())?;
+        read_parameters(self.alloc, self.served, Asked::Delete, &self.call.query)?;
         let Some(object) = &existing.object else {
             return Err(self.not_found(&key));
         };
@@ -359,7 +359,7 @@ impl<'a> Planner<'a> {
     pub(crate) fn plan_get(self, key: &Key, object: Option<Object>) -> Result<Plan, CallError>
         ensures { Returns plan_of result (get_plan (type_of self.entry) self.entry.current (option_map object_of object) (key_of key.now) (call_of_entry self.entry).query) }
     {
-        let params = read_parameters(self.alloc, Asked::Get, &self.call.query)?;
+        let params = read_parameters(self.alloc, self.served, Asked::Get, &self.call.query)?;
         let Some(object) = object else {
             return Err(self.not_found(key));
         };

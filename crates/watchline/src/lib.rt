@@ -29,3 +29,4 @@ pub use laws::{positions_skip_nothing, turns_send_in_order, watches_by_views};
 pub use lines::line;
 pub use opening::{InitialEvents, WatchFrom, start_watch};
 pub use status::{EXPIRED, GONE, expired_message, status_value};
+pub use version::text_at_version;

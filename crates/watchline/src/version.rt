@@ -76,7 +76,7 @@ fn printed_at(alloc: Global, text: &str, revision: u64) -> Result<Option<String>
 }
 
 /// The object's text at a version: printed again with it; a text that is no object's stays as it is.
-pub(crate) fn text_at_version(alloc: Global, text: &str, revision: u64) -> Result<String, Fault>
+pub fn text_at_version(alloc: Global, text: &str, revision: u64) -> Result<String, Fault>
     ensures { IfOk result (λ s. string_bytes s ≡ text_at_version revision text.now) }
 {
     match printed_at(alloc, text, revision)? {

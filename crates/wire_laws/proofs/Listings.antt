@@ -1,10 +1,10 @@
 -- What a machine keeps of a served type, and the plan of a call that lists it or watches it.
-use Rattle.std.proofs.Common.{◌≡◌, ℕ, ◌≤◌, ◌<◌, Bool, true, false, true≢false, List, [], Option, None, Some, Result, Ok, Err, IsUtf8, sym, ap, subst, ◌∙◌, arith}
+use Rattle.std.proofs.Common.{◌≡◌, ℕ, ◌≤◌, ◌<◌, Bool, true, false, true≢false, List, [], Option, None, Some, Result, Ok, Err, IsUtf8, refl, sym, ap, subst, ◌∙◌, arith}
 use Rattle.std.proofs.lemmas.Bool.{le-ltb, lt-ltb, ne_eqb}
 use Rattle.std.specs.Prelude.{if◌then◌else◌, nat_lt, slice_get}
 use Rattle.api_types.specs.TypesFile.{ServedShape}
 use Rattle.names.specs.Names.{is_dns_label, is_dns_subdomain}
-use Rattle.history.specs.History.{History, IsHistory, Key, Object, Objects, state_at}
+use Rattle.history.specs.History.{History, IsHistory, Key, Object, Objects, current_objects, state_at}
 use Rattle.history.proofs.Wholes.{whole_is}
 use Rattle.objects.specs.ReadBack.{IsObjectText, max_version}
 use Rattle.objects.proofs.Taken.{same_some}
@@ -22,9 +22,11 @@ use Rattle.watchline.specs.Opening.{from_parts, initial_in, opened_by, starts}
 use Rattle.watchline.specs.Watches.{from_history}
 use Rattle.line_laws.specs.Listed.{AreKept, IsKept, IsReadAsPage, IsWanted}
 use Rattle.api_request.specs.declared.method.Method.TheVariants.{Get}
-use Rattle.api_request.specs.Calls.{Call, Plan, of_all, of_namespace, scope_of}
+use Rattle.api_request.specs.Calls.{Answer, Call, Plan, of_all, of_namespace, scope_of}
 use Rattle.verbs.specs.Machine.{IsMachine, IsSomeTextAt, identity_of}
 use Rattle.api_validation.specs.Parameters.{parameters_validated}
+use Rattle.api_validation.proofs.Readings.{words_are_read_on_each}
+use Rattle.verbs.specs.DryRuns.{is_dry_run, run_by}
 use Rattle.verbs.specs.PromiseLaws.{TextsSayStates}
 use Rattle.verbs.specs.Step.{collection_of, list_answered, list_refusal, list_plan, page_shown, plan_for, planned, refused, shown_by, dispatch_type, dispatch_scope, dispatch_call, watch_shown}
 use Rattle.api_request.specs.Validated.{Validated, and_then}
@@ -61,22 +63,31 @@ machine_keeps say types m t kind namespace r is served k o same there = text_kep
 abbrev page_text : ServedShape → Call → Values → ℕ → History → List ℕ
 page_text t call values revision m = list_text (listed_by t call) revision (page_of (listed_by t call) values (state_at m.changes revision))
 
+-- a list that is a dry run is that list
+answered_still : (is_dry : Bool) (objects : Objects) (r : Result Answer Refusal) → run_by is_dry objects (plan_for (list_answered r)) ≡ plan_for (list_answered r)
+answered_still true objects (Ok answer) = refl
+answered_still true objects (Err refusal) = refl
+answered_still false objects r = refl
+
 module _ (types : List ServedShape) (m : History) (call : Call) (t : ServedShape) (values : Values) (served : slice_get types call.target.kind ≡ Some t) (gets : call.target.method ≡ Get)
     (unnamed : call.target.name ≡ None) (says : parameters_validated asked.List call.query ≡ Ok values) where
   by_namespace : (namespace : Option (List ℕ))
-      → dispatch_type (Some t) (scope_of namespace None call.target.status) (from_history m) call ≡ list_plan t (from_history m) call.target.kind namespace call.query
+      → dispatch_type types (Some t) (scope_of namespace None call.target.status) (from_history m) call ≡ list_plan t (from_history m) call.target.kind namespace call.query
   by_namespace None = ap (λ how. dispatch_scope of_all how t (from_history m) call) gets
   by_namespace (Some namespace) = ap (λ how. dispatch_scope (of_namespace namespace) how t (from_history m) call) gets
 
   validated_is : dispatch_call types (from_history m) call ≡ list_answered (shown_by (from_history m) (listed_by t call) values values.watch)
   validated_is =
-      ap (λ o. dispatch_type o (scope_of call.target.namespace call.target.name call.target.status) (from_history m) call) served
-      ∙ ap (λ name. dispatch_type (Some t) (scope_of call.target.namespace name call.target.status) (from_history m) call) unnamed
+      ap (λ o. dispatch_type types o (scope_of call.target.namespace call.target.name call.target.status) (from_history m) call) served
+      ∙ ap (λ name. dispatch_type types (Some t) (scope_of call.target.namespace name call.target.status) (from_history m) call) unnamed
       ∙ by_namespace call.target.namespace
-      ∙ ap (λ (v : Validated Values). and_then v (λ said. list_answered (shown_by (from_history m) (listed_by t call) said said.watch))) says
+      ∙ ap (λ (v : Validated Values). and_then v (λ said. list_answered (shown_by (from_history m) (listed_by t call) said said.watch))) (words_are_read_on_each t asked.List call.query values says)
 
   shown_as : (watch : Option Watch) → values.watch ≡ watch → planned types m call ≡ plan_for (list_answered (shown_by (from_history m) (listed_by t call) values watch))
-  shown_as watch is = ap plan_for validated_is ∙ ap (λ o. plan_for (list_answered (shown_by (from_history m) (listed_by t call) values o))) is
+  shown_as watch is =
+      ap (λ (j : Validated Plan). run_by (is_dry_run (slice_get types call.target.kind) call) (current_objects m) (plan_for j)) validated_is
+      ∙ answered_still (is_dry_run (slice_get types call.target.kind) call) (current_objects m) (shown_by (from_history m) (listed_by t call) values values.watch)
+      ∙ ap (λ o. plan_for (list_answered (shown_by (from_history m) (listed_by t call) values o))) is
 
 -- ---- of a list
 

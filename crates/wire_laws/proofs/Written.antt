@@ -2,7 +2,8 @@
 use Rattle.std.proofs.Common.{arith, ◌≡◌, ℕ, suc, ◌≤◌, Bool, true, false, List, length, take, drop, Option, None, Some, Result, Ok, Err, refl, sym, subst, inl, inr}
 use Rattle.std.proofs.lemmas.Bool.{leb-true}
 use Rattle.std.specs.Fmt.{digits}
-use Rattle.std.specs.Prelude.{◌==◌, codes, if◌then◌else◌, nat_le, nat_lt, slice_get, ⊤}
+use Rattle.std.specs.Str.{bytes_eq}
+use Rattle.std.specs.Prelude.{◌==◌, codes, if◌then◌else◌, nat_le, nat_lt, option_and_then, slice_get, ⊤}
 use Rattle.http.specs.StatusCode.{IsStatusCode}
 use Rattle.httparse.specs.Grammar.{RequestHead, is_value_byte}
 use Rattle.serde_json.proofs.OnLiterals.{serde_json_on_literals}
@@ -19,9 +20,10 @@ use Rattle.api_request.specs.declared.method.Method.{Method}
 use Rattle.api_request.specs.declared.method.Method.TheVariants as method
 use Rattle.api_request.specs.declared.reason.Reason.{Reason}
 use Rattle.api_request.specs.declared.reason.Reason.TheVariants as reason
+use Rattle.discovery.specs.Paths.{Document, document_in, text_in}
 use Rattle.api_request.specs.declared.resource.Resource.{Resource}
 use Rattle.api_request.specs.declared.resource.Resource.TheVariants as resource
-use Rattle.api_request.specs.Admit.{RequestInfo, admitted, allowed, not_admitted, method_admitted, method_named, method_served, place_admitted, place_of, accepts_media, target_at}
+use Rattle.api_request.specs.Admit.{RequestInfo, admitted, allowed, document_admitted, document_target, not_admitted, method_admitted, method_named, method_served, path_admitted, place_of, accepts_media, target_at}
 use Rattle.api_request.specs.Calls.{Answer, Call, Denied, Plan, Scope, Target, of_all, of_namespace, of_object, scope_of}
 use Rattle.lists.specs.declared.refusal.Refusal.{Refusal as ListRefusal}
 use Rattle.lists.specs.Body.{Collection}
@@ -33,14 +35,15 @@ use Rattle.params.specs.declared.params.Asked.TheVariants as asked
 use Rattle.api_validation.specs.Envelope.{api_version_of}
 use Rattle.api_request.specs.Validated as validated
 use Rattle.api_request.specs.Validated.{Validated}
-use Rattle.history.specs.History.{History, Key, Object}
+use Rattle.history.specs.History.{Change, History, Key, Object, Objects, current_objects}
 use Rattle.verbs.specs.Machine.{no_state, state_of_existing, decoded_state}
 use Rattle.api_validation.specs.Naming.{labels_and_annotations_validated_by, names_validated}
 use Rattle.api_validation.specs.Options.{options_validated}
-use Rattle.api_validation.specs.Parameters.{parameters_validated}
+use Rattle.api_validation.specs.Parameters.{parameters_for}
 use Rattle.api_request.specs.Reasons.{code_of}
 use Rattle.api_request.specs.Status.{CallRefusal, status_value}
 use Rattle.api_validation.specs.Size.{size_validated}
+use Rattle.verbs.specs.DryRuns.{answer_tried, is_dry_run, run_by}
 use Rattle.verbs.specs.Step as step
 use Rattle.requests.specs.Asks.{CallDecision, Asks, call_in, call_with}
 use Rattle.wire.specs.Heads.{head_end, max_head}
@@ -185,9 +188,15 @@ method_readable place None media = err _ (record { allow = allowed_readable plac
 method_readable place (Some m) media =
     if_result (accepts_media m media) (Ok (target_at place m)) (not_admitted reason.UnsupportedMediaType (codes "media type not served") None) (ok (target_at place m)) (err _ media_readable)
 
-place_readable : (o : Option RequestInfo) (method : List ℕ) (media : Option (List ℕ)) → ReadableResult Target (place_admitted o method media)
-place_readable None method media = err _ no_path_readable
-place_readable (Some place) method media = method_readable place (method_served place.resource (method_named method)) media
+document_readable : (o : Option Document) (method path : List ℕ) → ReadableResult Target (document_admitted o method path)
+document_readable None method path = err _ no_path_readable
+document_readable (Some document) method path =
+    if_result (bytes_eq method (codes "GET")) (Ok (document_target path)) (not_admitted reason.MethodNotAllowed (codes "method not served here") (Some (codes "GET"))) (ok (document_target path))
+    (err _ (record { allow = allowed_readable resource.AllNamespaces; short = method_short }))
+
+path_readable : (types : List ServedShape) (o : Option RequestInfo) (method path : List ℕ) (media : Option (List ℕ)) → ReadableResult Target (path_admitted types o method path media)
+path_readable types None method path media = document_readable (document_in types path) method path
+path_readable types (Some place) method path media = method_readable place (method_served place.resource (method_named method)) media
 
 sized_readable : (n : ℕ) → ReadableResult (Option ℕ) (sized n)
 sized_readable n = if_result (nat_lt max_body n) (Err (as_denied body_too_large)) (Ok (Some n)) (err _ (refusal_readable body_too_large)) (ok (Some n))
@@ -239,7 +248,7 @@ call_readable : (types : List ServedShape) (r : Request) (rest : List ℕ) → R
 call_readable types r rest =
     let target = admitted types r.method (path_of r.request_target) (checked_media r) in
     then_readable (decided_by target) (λ t. call_with r t (body_in r rest))
-    (decided_readable target (place_readable (place_of types (path_of r.request_target)) r.method (checked_media r)))
+    (decided_readable target (path_readable types (place_of types (path_of r.request_target)) r.method (path_of r.request_target) (checked_media r)))
     (λ t. with_readable r t (body_in r rest) (body_readable r rest))
 
 pub asked_readable : (types : List ServedShape) (bytes : List ℕ) (d : Denied) → Asks types bytes (refused d) → IsReadable d
@@ -303,7 +312,7 @@ apply_fine by t current existing k query body =
 
 get_fine : (t : ServedShape) (current : ℕ) (existing : Option Object) (k : Key) (query : List ℕ) → IsFine (step.get_plan t current existing k query)
 get_fine t current existing k query =
-    checked (parameters_validated asked.Get query)
+    checked (parameters_for t asked.Get query)
     (λ values. validated.and_then (step.require_found t k.name existing) (λ o. validated.and_then (step.version_reached values.version current) (λ u. Ok (step.plan_without_change o))))
     (λ values. checked (step.require_found t k.name existing) (λ o. validated.and_then (step.version_reached values.version current) (λ u. Ok (step.plan_without_change o)))
     (λ o. checked (step.version_reached values.version current) (λ u. Ok (step.plan_without_change o)) (λ u. fine (step.plan_without_change o) (omega arith, omega arith))))
@@ -344,8 +353,8 @@ deleted_fine t current k existing version =
 
 delete_fine : (t : ServedShape) (current : ℕ) (existing : Option Object) (k : Key) (query : List ℕ) (body : Option Data) → IsFine (step.delete_plan t current existing k query body)
 delete_fine t current existing k query body =
-    checked (options_validated body) (λ version. validated.and_then (parameters_validated asked.Delete query) (λ values. step.deleted_over t current k existing version))
-    (λ version. checked (parameters_validated asked.Delete query) (λ values. step.deleted_over t current k existing version)
+    checked (options_validated t.is_discovered body) (λ version. validated.and_then (parameters_for t asked.Delete query) (λ values. step.deleted_over t current k existing version))
+    (λ version. checked (parameters_for t asked.Delete query) (λ values. step.deleted_over t current k existing version)
     (λ values. deleted_fine t current k existing version))
 
 with_body : (o : Option Data) (validate : Data → Validated Plan) → ((body : Data) → IsFine (validate body)) → IsFine (validated.and_then (step.body_of o) validate)
@@ -384,7 +393,7 @@ answered (Err refusal) is = denied _
 list_fine : (t : ServedShape) (s : HistoryWindow) (kind : ℕ) (namespace : Option (List ℕ)) (query : List ℕ) → IsFine (step.list_plan t s kind namespace query)
 list_fine t s kind namespace query =
     let of = step.collection_of t kind namespace in
-    checked (parameters_validated asked.List query) (λ values. step.list_answered (step.shown_by s of values values.watch))
+    checked (parameters_for t asked.List query) (λ values. step.list_answered (step.shown_by s of values values.watch))
     (λ values. answered (step.shown_by s of values values.watch) (shown s of values values.watch))
 
 all_fine : (m : Method) (t : ServedShape) (s : HistoryWindow) (call : Call) → IsFine (step.dispatch_scope of_all m t s call)
@@ -408,16 +417,30 @@ by_fine (of_object namespace name by) m t s call =
     let k = step.key_at call namespace name in
     object_fine m by t s.current (step.object_at s k) k call.query call.body
 
-at_fine : (found : Option ServedShape) (scope : Option Scope) (s : HistoryWindow) (call : Call) → IsFine (step.dispatch_type found scope s call)
-at_fine None scope s call = denied _
-at_fine (Some t) None s call = denied _
-at_fine (Some t) (Some scope) s call = by_fine scope call.target.method t s call
+document_fine : (text : Option (List ℕ)) → IsFine (step.document_shown text)
+document_fine None = denied _
+document_fine (Some text) = fine _ (omega arith, omega arith)
+
+at_fine : (types : List ServedShape) (found : Option ServedShape) (scope : Option Scope) (s : HistoryWindow) (call : Call) → IsFine (step.dispatch_type types found scope s call)
+at_fine types None scope s call = denied _
+at_fine types (Some t) None s call = document_fine (option_and_then (text_in types) call.target.name)
+at_fine types (Some t) (Some scope) s call = by_fine scope call.target.method t s call
 
 plan_fine : (j : Validated Plan) → IsFine j → IsStatusCode (step.plan_for j).answer.status
 plan_fine (Ok p) is = is.is
 plan_fine (Err d) is = code_is d.reason
 
+-- a dry run has the status of the call
+tried_status : (objects : Objects) (change : Option Change) (answer : Answer) → IsStatusCode answer.status → IsStatusCode (answer_tried objects change answer).status
+tried_status objects None answer is = is
+tried_status objects (Some c) answer is = is
+
+run_status : (is_dry : Bool) (objects : Objects) (p : Plan) → IsStatusCode p.answer.status → IsStatusCode (run_by is_dry objects p).answer.status
+run_status true objects p is = tried_status objects p.change p.answer is
+run_status false objects p is = is
+
 pub status_is : (types : List ServedShape) (m : History) (call : Call) → IsStatusCode (step.planned types m call).answer.status
 status_is types m call =
-    plan_fine (step.dispatch_call types (from_history m) call)
-    (at_fine (slice_get types call.target.kind) (scope_of call.target.namespace call.target.name call.target.status) (from_history m) call)
+    run_status (is_dry_run (slice_get types call.target.kind) call) (current_objects m) (step.plan_for (step.dispatch_call types (from_history m) call))
+    (plan_fine (step.dispatch_call types (from_history m) call)
+    (at_fine types (slice_get types call.target.kind) (scope_of call.target.namespace call.target.name call.target.status) (from_history m) call))

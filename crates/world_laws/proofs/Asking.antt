@@ -13,7 +13,7 @@ use Rattle.lists.specs.Body.{continued_at}
 use Rattle.lists.specs.TokenLaws.{next_pairs}
 use Rattle.lists.proofs.Tokens.{query_is_read}
 use Rattle.api_request.specs.declared.method.Method.TheVariants.{Get}
-use Rattle.api_request.specs.Admit.{RequestInfo, admitted, place_admitted}
+use Rattle.api_request.specs.Admit.{RequestInfo, admitted, path_admitted, place_admitted}
 use Rattle.api_request.specs.Calls.{Call, Target}
 use Rattle.verbs.specs.Machine.{IsMachine}
 use Rattle.api_validation.specs.Parameters.{read_or_refused}
@@ -57,12 +57,12 @@ module _ (types : List ServedShape) (task : Task) (is : IsTask types task) where
   place : RequestInfo
   place = record { resource = resource_for task.settings.namespace; kind = task.settings.kind; namespace = task.settings.namespace; name = None }
 
-  got : (namespace : Option (List ℕ)) → place_admitted (Some (record { resource = resource_for namespace; kind = task.settings.kind; namespace = namespace; name = None })) (codes "GET") None ≡ Ok (record target_is { namespace = namespace })
+  got : (namespace : Option (List ℕ)) → place_admitted (record { resource = resource_for namespace; kind = task.settings.kind; namespace = namespace; name = None }) (codes "GET") None ≡ Ok (record target_is { namespace = namespace })
   got None = refl
   got (Some namespace) = refl
 
   is_admitted : admitted types (codes "GET") (path_of (wanted_by task)) None ≡ Ok target_is
-  is_admitted = ap (λ (o : Option RequestInfo). place_admitted o (codes "GET") None) (path_reaches types task is) ∙ got task.settings.namespace
+  is_admitted = ap (λ (o : Option RequestInfo). path_admitted types o (codes "GET") (path_of (wanted_by task)) None) (path_reaches types task is) ∙ got task.settings.namespace
 
   target_visible : (query : List ℕ) → All IsVisible query → All IsVisible (path_of (wanted_by task) ++ 63 ∷ query)
   target_visible query all =

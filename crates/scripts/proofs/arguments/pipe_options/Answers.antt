@@ -3,9 +3,9 @@ use Rattle.std.specs.Prelude.{map, unwrap_or, ⊤}
 use Rattle.clap.specs.Words.{fault_of, matches_of}
 use Rattle.clap.proofs.CallerLemmas.{some_of_text}
 use Rattle.programs.specs.Resources.{resource_in}
-use Rattle.programs.proofs.OptionValues.{number_by, text_is, text_or}
+use Rattle.programs.proofs.OptionValues.{flag_by, flag_is, number_by, text_is, text_or}
 use Rattle.scripts.specs.PlayerCommand.{default_label, default_page, default_type, pipe_app}
-use Rattle.scripts.proofs.PipeArguments.{fails_by, value_at}
+use Rattle.scripts.proofs.PipeArguments.{fails_by, is_plain, value_at}
 use Rattle.scripts.proofs.PlayerArguments.{page_refused, emitted_by_clap, type_refused}
 use Rattle.scripts.proofs.arguments.pipe_options.Goals as goal
 
@@ -64,3 +64,8 @@ returns-in_err-resource-clause-refused g c =
 pub returns-clause-refused : goal.returns-clause-refused
 returns-clause-refused g c =
     fails_by {T = ⊤} c.args.asked.name.now _ c.in_ok-pipe_command.ensures.app (map g.S.AsStr.text c.args.arguments.now) (Ok tt) c.in_ok-matches.ensures.kinds
+
+pub returns-clause-discovery : goal.returns-clause-discovery
+returns-clause-discovery g c =
+    let name = c.args.asked.name.now in
+    flag_by _ _ _ (flag_is (pipe_app name) (is_plain name) _ c.in_ok-pipe_command.ensures.app _ _ c.in_ok-matches.ensures.matches (codes "discovery")) (c.get_flag.ensures.none, c.get_flag.ensures.value, c.get_flag.ensures.other)

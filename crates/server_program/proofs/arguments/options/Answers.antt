@@ -1,7 +1,7 @@
 use Rattle.std.proofs.Common.{◌∙◌, Some, codes, refl, sym}
 use Rattle.clap.proofs.CallerLemmas.{some_of_text}
-use Rattle.programs.proofs.OptionValues.{flag_is, number_by, text_is, value_is}
-use Rattle.server_program.proofs.ServerArguments.{flag_by, is_plain}
+use Rattle.programs.proofs.OptionValues.{flag_by, flag_is, number_by, text_is, value_is}
+use Rattle.server_program.proofs.ServerArguments.{is_plain}
 use Rattle.server_program.proofs.arguments.options.Goals as goal
 
 pub returns-clause-types : goal.returns-clause-types
@@ -42,3 +42,7 @@ returns-clause-record g c = c.get_str-2.ensures ∙ value_is _ is_plain _ c.in_o
 
 pub returns-clause-objects : goal.returns-clause-objects
 returns-clause-objects g c = c.get_str-3.ensures ∙ value_is _ is_plain _ c.in_ok-server_command.ensures.app _ _ c.in_ok-matches.ensures.matches (codes "objects")
+
+pub returns-clause-discovery : goal.returns-clause-discovery
+returns-clause-discovery g c =
+    flag_by _ _ _ (flag_is _ is_plain _ c.in_ok-server_command.ensures.app _ _ c.in_ok-matches.ensures.matches (codes "discovery")) (c.get_flag-discovery.ensures.none, c.get_flag-discovery.ensures.value, c.get_flag-discovery.ensures.other)

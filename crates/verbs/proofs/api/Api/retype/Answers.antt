@@ -2,6 +2,7 @@ use Rattle.std.proofs.Common.{rules, ◌≡◌, ◌∙◌, List, Ok, Err, None, 
 use Rattle.std.specs.Prelude.{IfSome}
 use Rattle.std.proofs.lemmas.Result.{IfErr-weaker}
 use Rattle.serde_json.specs.View as value
+use Rattle.api_types.specs.Discovered.{declared_after}
 use Rattle.api_types.specs.Served.{types_view}
 use Rattle.api_types.specs.TypesFile.{ServedShape}
 use Rattle.history.specs.Read.{write_of}
@@ -24,9 +25,10 @@ returns-in_err-writes-clause-refused c = λ types m represents.
     let next_types = c.in_ok-catalog.catalog in
     let old : types_view c.types-old.result.now ≡ types = c.types-old.ensures ∙ represents.serves in
     let new : types_view c.types-new.result.now ≡ next_types = c.types-new.ensures in
+    let declared = subst (λ (l : List ServedShape). declared_after l (value.view c.args.file.now) ≡ Ok next_types) old c.in_ok-catalog.ensures.types in
     let refused = c.writes_under.ensures.refused m (subst (λ (l : List ServedShape). IsMachine l m) (sym old) represents.is_machine) represents.store in
     IfErr-weaker c.from_residual-in_err-writes.result (λ e. IfSome (retype_refusal e) (λ why. if_compatible (types_view c.types-old.result.now) m (types_view c.types-new.result.now) ≡ Err why)) _
-    (λ e h. refused_file types next_types m (value.view c.args.file.now) e c.in_ok-catalog.ensures.types c.in_ok-catalog.ensures.shaped
+    (λ e h. refused_file types next_types m (value.view c.args.file.now) e declared c.in_ok-catalog.ensures.shaped
     (subst (λ (l : List ServedShape). IfSome (retype_refusal e) (λ why. if_compatible l m next_types ≡ Err why)) old
     (subst (λ (l : List ServedShape). IfSome (retype_refusal e) (λ why. if_compatible (types_view c.types-old.result.now) m l ≡ Err why)) new h)))
     (search (rules, refused))
@@ -60,5 +62,6 @@ returns-clause-ok c = λ types m represents.
     let are = subst (λ (l : List ServedShape). map write_of ws ≡ retyping_writes l next_types m) old
     (subst (λ (l : List ServedShape). map write_of ws ≡ retyping_writes (types_view c.types-old.result.now) l m) new (c.in_ok-writes.ensures.writes m is represents.store)) in
     let store = c.in_ok-write_all.ensures.ok ∙ ap (λ (v : View). written_all_in v (map write_of c.deref.result.now)) c.writes_under.ensures.same ∙ ap (λ l. written_all_in api.store (map write_of l)) c.deref.ensures.value in
-    let done = retypes api new_api types next_types m (value.view c.args.file.now) ws represents c.in_ok-catalog.ensures.types c.in_ok-catalog.ensures.shaped lawful are refl store in
+    let declared = subst (λ (l : List ServedShape). declared_after l (value.view c.args.file.now) ≡ Ok next_types) old c.in_ok-catalog.ensures.types in
+    let done = retypes api new_api types next_types m (value.view c.args.file.now) ws represents declared c.in_ok-catalog.ensures.shaped lawful are refl store in
     (next_types, done.0, done.1)
