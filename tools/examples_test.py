@@ -46,7 +46,6 @@ PAGES = (
     Page("examples/README.md"),
     Page("examples/crd.md", ("python3-yaml",)),
     Page("examples/types/README.md"),
-    Page("examples/kubectl.md", ("kubectl",)),
     Page("examples/python.md", ("python3-kubernetes",)),
     Page("examples/go.md", ("golang-go", "client-go")),
 )
@@ -114,14 +113,26 @@ class Session:
         """Starts the server of a command."""
         words = shlex.split(command)
         types = words[words.index("--types") + 1].replace("$TMPDIR", self.folder)
-        self.server = Server(self.program, os.path.join(TOP, types))
+        options = tuple(it for it in words if it == "--discovery")
+        self.server = Server(self.program, os.path.join(TOP, types), None, options)
         return f"listening on 127.0.0.1:{PORT}"
 
 
-def played(page: Page, program: str) -> tuple[str, list[str], int]:
-    """The page with what its commands print, where that differs, and how many commands it has."""
-    with open(f"{TOP}/{page.path}", encoding="utf-8") as it:
-        parts = it.read().split("```\n")
+def read(path: str) -> str:
+    """The text of a page."""
+    with open(f"{TOP}/{path}", encoding="utf-8") as it:
+        return it.read()
+
+
+def write(path: str, text: str) -> None:
+    """Makes this the text of a page."""
+    with open(f"{TOP}/{path}", "w", encoding="utf-8") as it:
+        it.write(text)
+
+
+def played(page: str, program: str) -> tuple[str, list[str], int]:
+    """The text of a page with what its commands print, where that differs, and how many commands it has."""
+    parts = page.split("```\n")
     count, differences = 0, []
     with tempfile.TemporaryDirectory() as folder, Session(program, folder) as session:
         for at in range(1, len(parts), 2):
@@ -164,7 +175,7 @@ def main(words: list[str]) -> int:
             skipped.append(page.path)
             print(f"{page.path}: skipped, without {', '.join(lacking)}")
             continue
-        text, differences, count = played(page, program)
+        text, differences, count = played(read(page.path), program)
         print(
             *differences,
             f"{page.path}: {count} commands, {len(differences)} differences",
@@ -173,8 +184,7 @@ def main(words: list[str]) -> int:
         failed += len(differences) + (count == 0)
         commands += count
         if is_write:
-            with open(f"{TOP}/{page.path}", "w", encoding="utf-8") as it:
-                it.write(text)
+            write(page.path, text)
     print(
         f"{commands} commands of {len(PAGES) - len(skipped)} pages, {failed} failed, {len(skipped)} pages skipped"
     )

@@ -40,10 +40,16 @@ def has_client_go(gopath: str) -> bool:
 
 
 class Server:
-    """A server of the types of a file, on a free port. It ends with the block."""
+    """A server of the types of a file, on a free port, with options beside. It ends with the block."""
 
-    def __init__(self, program: str, types: str, errors: int | None = None) -> None:
-        words = [program, "--types", types, "--port", "0", "--concurrent"]
+    def __init__(
+        self,
+        program: str,
+        types: str,
+        errors: int | None = None,
+        options: tuple[str, ...] = (),
+    ) -> None:
+        words = [program, "--types", types, "--port", "0", "--concurrent", *options]
         self.process = subprocess.Popen(
             words, stdout=subprocess.PIPE, stderr=errors, text=True
         )
