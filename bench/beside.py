@@ -52,6 +52,19 @@ PACKAGE = "golang-k8s-sigs-structured-merge-diff-dev"
 GOCODE = "/usr/share/gocode/src"
 LIBRARY = f"{GOCODE}/sigs.k8s.io/structured-merge-diff"
 REFLECT = "github.com/modern-go/reflect2"
+# In the sources of Kubernetes: the generator of schemas, where its file belongs, and the packages
+# whose types kube-apiserver serves.
+OPENAPI_GEN = "vendor/k8s.io/kube-openapi/cmd/openapi-gen"
+SCHEMAS = "pkg/generated/openapi"
+SERVED_BY_KUBERNETES = (
+    "pkg/apis",
+    "vendor/k8s.io/api",
+    "vendor/k8s.io/apimachinery/pkg",
+    "vendor/k8s.io/apiserver/pkg/apis",
+    "vendor/k8s.io/client-go/pkg",
+    "vendor/k8s.io/kube-aggregator/pkg/apis",
+    "vendor/k8s.io/apiextensions-apiserver/pkg/apis",
+)
 OBJECTS, WATCHES, WRITES = 10_000, 50, 1_000
 STARTS, GOES, SECONDS = 3, 3, 2.0
 COLUMNS = ("this server", "merge library", "kube-apiserver and etcd", "fake clientset")
@@ -402,27 +415,61 @@ def of_library(program: str) -> Column:
     return {"applies": max(rates)}
 
 
-def overlay(vendor: str, path: str) -> str:
+def overlay(vendor: str, path: str, more: dict[str, str]) -> str:
     """The file that has Go read Debian's reflect2 in place of the one in `vendor`: that one of
-    2018 reads maps in a way that Go of 1.18 and later has no longer."""
+    2018 reads maps in a way that Go of 1.18 and later has no longer. With more such files."""
     old = f"{vendor}/{REFLECT}"
     replaced = {it: "" for it in glob.glob(f"{old}/*.go")}
     for it in glob.glob(f"{GOCODE}/{REFLECT}/*.go"):
         replaced[f"{old}/{os.path.basename(it)}"] = it
     with open(path, "w", encoding="utf-8") as out:
-        json.dump({"Replace": replaced}, out)
+        json.dump({"Replace": replaced | more}, out)
     return path
 
 
-def build(package: str, cwd: str, gopath: str, vendor: str) -> str:
-    """A program of Go, of what the GOPATH has alone."""
-    program, replaced = f"{gopath}/program", overlay(vendor, f"{gopath}/overlay")
+def of_go(gopath: str) -> dict[str, str]:
+    """The variables by which Go takes what the GOPATH has alone."""
     its = {"GOPATH": gopath, "GO111MODULE": "off", "GOFLAGS": "", "CGO_ENABLED": "0"}
+    return {**os.environ, **its}
+
+
+def build(
+    package: str, cwd: str, gopath: str, vendor: str, more: dict[str, str] | None = None
+) -> str:
+    """A program of Go, of what the GOPATH has alone, and more files in place of its own."""
+    name = os.path.basename(package).strip(".") or "program"
+    program = f"{gopath}/{name}"
+    replaced = overlay(vendor, f"{gopath}/{name}.overlay", more or {})
     # (without the folder's path, what Go keeps of one run is used in the next)
     options = ["-trimpath", "-overlay", replaced, "-o", program]
     command = ["go", "build", *options, package]
-    subprocess.run(command, cwd=cwd, env={**os.environ, **its}, check=True)
+    subprocess.run(command, cwd=cwd, env=of_go(gopath), check=True)
     return program
+
+
+def has_schema(path: str) -> bool:
+    """Whether types of a file of Go are to have schemas."""
+    with open(path, encoding="utf-8") as it:
+        return re.search(r"^// *\+k8s:openapi-gen=", it.read(), re.M) is not None
+
+
+def schemas(place: str, gopath: str) -> dict[str, str]:
+    """The file with the schemas of what kube-apiserver serves. Its sources lack it, since their
+    own build makes it too, by the generator that they have."""
+    vendor, top = f"{place}/vendor", "k8s.io/kubernetes"
+    generator = build(f"{top}/{OPENAPI_GEN}", place, gopath, vendor)
+    folders = set()
+    for root in SERVED_BY_KUBERNETES:
+        for path in glob.glob(f"{place}/{root}/**/*.go", recursive=True):
+            if has_schema(path):
+                folders.add(f"{top}/{os.path.relpath(os.path.dirname(path), place)}")
+    words = ["-i", ",".join(sorted(folders)), "-p", f"{top}/{SCHEMAS}"]
+    words += ["-O", "zz_generated.openapi", "-h", os.devnull, "-r", f"{gopath}/report"]
+    # (it finds `vendor` by the folder's path within the GOPATH, which is that of a link)
+    its = {**of_go(gopath), "PWD": place}
+    subprocess.run([generator, *words, "-o", gopath], cwd=place, env=its, check=True)
+    made = f"{SCHEMAS}/zz_generated.openapi.go"
+    return {f"{place}/{made}": f"{gopath}/{top}/{made}"}
 
 
 def build_apiserver(sources: str, folder: str) -> str:
@@ -432,7 +479,8 @@ def build_apiserver(sources: str, folder: str) -> str:
     os.makedirs(os.path.dirname(place))
     os.symlink(sources, place)
     package = "k8s.io/kubernetes/cmd/kube-apiserver"
-    return build(package, folder, gopath, f"{place}/vendor")
+    more = schemas(place, gopath)
+    return build(package, folder, gopath, f"{place}/vendor", more)
 
 
 def build_fake(sources: str, folder: str) -> str:
