@@ -528,8 +528,8 @@ def version_of(program: str) -> str:
 
 
 def version_of_sources(sources: str) -> str:
-    """The version of the sources of Kubernetes, by the name of their folder."""
-    found = re.search(r"kubernetes-([\d.]+)$", sources)
+    """The version of the sources of Kubernetes, by the name of their folder, which Debian also writes `A+reallyB`."""
+    found = re.search(r"kubernetes-(?:[\d.]+\+really)?([\d.]+)$", sources)
     return found[1] if found else "of no version"
 
 
