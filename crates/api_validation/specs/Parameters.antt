@@ -6,7 +6,7 @@ use Rattle.params.specs.declared.parameter.Parameter.{Parameter}
 use Rattle.params.specs.declared.parameter.Parameter.TheVariants.{FieldManager}
 use Rattle.params.specs.declared.params.Asked.{Asked}
 use Rattle.api_types.specs.TypesFile.{ServedShape}
-use Rattle.params.specs.Lenient.{pairs_read}
+use Rattle.params.specs.Lenient.{values_read}
 use Rattle.params.specs.Parameters.{name_of}
 use Rattle.params.specs.Query.{pairs_in}
 use Rattle.params.specs.Reading.{params_of}
@@ -32,7 +32,7 @@ parameters_validated asked query = read_or_refused (params_of asked (pairs_in qu
 
 -- on a type: of one that clients discover the query is read leniently
 abbrev pub parameters_for : ServedShape → Asked → List ℕ → Validated Values
-parameters_for t asked query = read_or_refused (params_of asked (pairs_read t.is_discovered (pairs_in query)))
+parameters_for t asked query = read_or_refused (values_read t.is_discovered asked (pairs_in query))
 
 -- of a type that clients don't discover it is read word for word, ..
 abbrev pub OthersAreReadByWords : Type 0

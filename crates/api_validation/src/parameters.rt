@@ -1,9 +1,8 @@
 //! The parameters of a call, and the refusal of a bad one. They are read in the crate `params`.
 
 ghost use Rattle.api_types.specs.Served as types;
-ghost use Rattle.params.specs.Lenient.{pairs_read};
+ghost use Rattle.params.specs.Lenient.{values_read};
 ghost use Rattle.params.specs.Query.{pairs_in};
-ghost use Rattle.params.specs.Reading.{params_of};
 ghost use Rattle.params.specs.Views as params;
 ghost use Rattle.params.specs.Views.{values_of};
 ghost use Rattle.api_validation.specs.Parameters.{OthersAreReadByWords, WordsAreReadOnEach, bad_parameter, parameters_for};
@@ -34,7 +33,7 @@ fn read_for(
     asked: Asked,
     query: &[u8],
 ) -> Result<Params, ParamsFault>
-    ensures { params.Returns values_of result (params_of asked (pairs_read (types.served served.now).is_discovered (pairs_in query.now))) }
+    ensures { params.Returns values_of result (values_read (types.served served.now).is_discovered asked (pairs_in query.now)) }
 {
     if served.is_discovered {
         Params::read_leniently(alloc, asked, query)

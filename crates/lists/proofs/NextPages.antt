@@ -16,7 +16,7 @@ use Rattle.history.proofs.Selecting.{entries-selected, is_sorted-filter}
 use Rattle.selector.specs.Requirement.{Requirement, selects}
 use Rattle.params.specs.Values.{Token, Values}
 use Rattle.lists.specs.Body.{Collection, list_text}
-use Rattle.lists.specs.Labels.{labels_of, selection_of}
+use Rattle.lists.specs.Labels.{attributes_of, selection_of}
 use Rattle.lists.specs.Lists.{key_after, list_of, max_page, page_limit, page_of, text_at}
 use Rattle.lists.specs.Revision.{exactly, revision_by, wanted_by}
 use Rattle.lists.specs.TokenLaws.{token_after, whole_list}
@@ -81,7 +81,7 @@ next_is_last of values s k is = last_of (page_limit values.limit) (left_after (o
 pass_listed : (of : Collection) (requirements : List Requirement) (s : Objects) → Pass (is_within of.kind of.namespace) (whole_list of requirements s)
 pass_listed of requirements s =
     subst (Pass (is_within of.kind of.namespace)) (sym (entries-selected (selection_of of.kind of.namespace requirements) s))
-    (pass_wanted (is_within of.kind of.namespace) (λ e. selects requirements (labels_of e.1.body)) (fin.entries s))
+    (pass_wanted (is_within of.kind of.namespace) (λ e. selects requirements (attributes_of e.1.body)) (fin.entries s))
 
 -- it is of the list's type
 kind_of_last : (of : Collection) (values : Values) (s : Objects) (k : Key) → (page_of of values s).next ≡ Some k → k.kind ≡ of.kind

@@ -13,7 +13,7 @@ use Rattle.history.proofs.Paging.{wanted_first, wanted_past}
 use Rattle.history.specs.declared.object.Entry.{Entry}
 use Rattle.selector.specs.Requirement.{Requirement, selects}
 use Rattle.params.specs.Values.{Token}
-use Rattle.lists.specs.Labels.{labels_of, selection_of}
+use Rattle.lists.specs.Labels.{attributes_of, selection_of}
 use Rattle.lists.specs.Lists.{key_after, max_page, page_limit}
 use Rattle.lists.specs.Rows.{Start, asked_for, is_over, matching, place_of, rows_left, to_read}
 
@@ -85,7 +85,7 @@ pub matched_more : (requirements : List Requirement) (whole found new rows rest 
     → new ≡ found ++ matching requirements (e ∷ []) → new ++ matching requirements rest ≡ whole
 matched_more requirements whole found new rows rest e so_far is more =
     ap (λ xs. xs ++ matching requirements rest) more ∙ append_assoc found (matching requirements (e ∷ [])) (matching requirements rest)
-    ∙ ap (λ xs. found ++ xs) (sym (filter-append (λ e. selects requirements (labels_of e.1.body)) (e ∷ []) rest) ∙ ap (matching requirements) (sym is)) ∙ so_far
+    ∙ ap (λ xs. found ++ xs) (sym (filter-append (λ e. selects requirements (attributes_of e.1.body)) (e ∷ []) rest) ∙ ap (matching requirements) (sym is)) ∙ so_far
 
 pub pushed_if : (b : Bool) (row : Entry) (found : List Entry) → b ≡ true → map entry_of (found ++ row ∷ []) ≡ map entry_of found ++ cond b (entry_of row ∷ []) []
 pushed_if b row found is = rw is (map-append entry_of found (row ∷ []))
@@ -101,7 +101,7 @@ IsFoundSoFar requirements all found left = matching requirements all ≡ found +
 pub found_more : (requirements : List Requirement) (all found left rows rest new : Entries) → IsFoundSoFar requirements all found left → left ≡ rows ++ rest
     → new ≡ found ++ matching requirements rows → IsFoundSoFar requirements all new rest
 found_more requirements all found left rows rest new so_far reads is =
-    so_far ∙ ap (λ xs. found ++ matching requirements xs) reads ∙ ap (λ xs. found ++ xs) (filter-append (λ e. selects requirements (labels_of e.1.body)) rows rest)
+    so_far ∙ ap (λ xs. found ++ matching requirements xs) reads ∙ ap (λ xs. found ++ xs) (filter-append (λ e. selects requirements (attributes_of e.1.body)) rows rest)
     ∙ sym (append_assoc found (matching requirements rows) (matching requirements rest)) ∙ ap (λ xs. xs ++ matching requirements rest) (sym is)
 
 pub found_all : (limit : Option ℕ) (requirements : List Requirement) (all found left : Entries) → IsFoundSoFar requirements all found left → left ≡ [] → limited limit found ≡ limited limit (matching requirements all)
@@ -165,5 +165,5 @@ place_after t = (t.namespace, t.name)
 -- the rows that match, from after the token's object on, are what the selection sees after its key
 pub seen_rows : (kind : ℕ) (namespace : Option (List ℕ)) (requirements : List Requirement) (token : Option Token) (limit : Option ℕ) (s : Objects)
     → limited limit (matching requirements (listed kind namespace (option_map place_after token) s)) ≡ seen_page (selection_of kind namespace requirements) (option_map (key_after kind) token) limit s
-seen_rows kind namespace requirements None limit s = ap (limited limit) (wanted_first kind namespace (λ k body. selects requirements (labels_of body)) s)
-seen_rows kind namespace requirements (Some token) limit s = ap (limited limit) (wanted_past namespace (key_after kind token) (λ k body. selects requirements (labels_of body)) s)
+seen_rows kind namespace requirements None limit s = ap (limited limit) (wanted_first kind namespace (λ k body. selects requirements (attributes_of body)) s)
+seen_rows kind namespace requirements (Some token) limit s = ap (limited limit) (wanted_past namespace (key_after kind token) (λ k body. selects requirements (attributes_of body)) s)

@@ -3,12 +3,12 @@ use Rattle.std.specs.Prelude.{ℕ, suc, ◌+◌, ◌==◌, if◌then◌else◌, 
 use Rattle.selector.specs.Requirement.{Requirement, selects}
 use Rattle.history.specs.History.{Key, Object, Objects, last_revision}
 use Rattle.history.specs.Page.{listed}
-use Rattle.lists.specs.Labels.{labels_of}
+use Rattle.lists.specs.Labels.{attributes_of}
 use Rattle.lists.specs.Lists.{max_page}
 
--- those whose labels meet the requirements
+-- those whose labels and names meet the requirements
 abbrev pub matching : List Requirement → List (Key × Object) → List (Key × Object)
-matching requirements = filter (λ e. selects requirements (labels_of e.1.body))
+matching requirements = filter (λ e. selects requirements (attributes_of e.1.body))
 
 -- a namespace and a name, after which rows are read, or none
 abbrev pub Start : Type 0

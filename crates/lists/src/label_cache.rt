@@ -5,10 +5,10 @@
 ghost use Rattle.std.specs.Prelude.{◌≡◌, IfOk, IfSome};
 ghost use Rattle.selector.specs.Requirement.{selects};
 ghost use Rattle.selector.specs.Views as selector;
-ghost use Rattle.lists.specs.Labels.{labels_of};
+ghost use Rattle.lists.specs.Labels.{attributes_of, labels_of};
 ghost use Rattle.lists.specs.LabelCache.{AreRight, IsRight};
 
-use crate::labels::LabelReader;
+use crate::labels::{LabelReader, is_taken};
 use revtable::Fault;
 use selector::Selector;
 use std::alloc::{AllocError, Global};
@@ -121,25 +121,25 @@ impl LabelCache {
         put_in(&mut self.slots, at, LabelledText { text, labels });
     }
 
-    /// Whether the labels in an object's text of a revision are selected; the text isn't read where nothing is asked of them, or
-    /// where its labels are kept.
+    /// Whether an object's text of a revision is selected; it isn't read where nothing is asked, or where its labels are kept and
+    /// its name isn't asked for.
     pub fn is_selected(
         &mut self,
         selector: &Selector,
         revision: u64,
         text: &str,
     ) -> Result<bool, Fault>
-        ensures { IfOk result (λ b. b ≡ selects selector.now (labels_of text.now)) }
+        ensures { IfOk result (λ b. b ≡ selects selector.now (attributes_of text.now)) }
     {
         if selector.is_all() {
             return Ok(true);
         }
         let at = revision as usize % SLOTS;
         if let Some(labels) = known_in(&self.slots, at, text) {
-            return Ok(selector.matches(labels));
+            return Ok(is_taken(self.alloc, selector, labels, text)?);
         }
         let labels = self.reader.labels_of(text)?;
-        let is_selected = selector.matches(&labels);
+        let is_selected = is_taken(self.alloc, selector, &labels, text)?;
         self.keep(at, text, labels);
         Ok(is_selected)
     }

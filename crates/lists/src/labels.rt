@@ -1,10 +1,12 @@
-//! The labels that an object's text gives, and whether they are selected. What finds them in the text stands in `finding`; label
-//! selectors in the crate `selector`.
+//! The labels that an object's text gives, and whether a selector takes it by them and its name. What finds them in the text stands
+//! in `finding`; selectors in the crate `selector`.
 
 ghost use Rattle.std.specs.Prelude.{◌≡◌, IfOk, option_map};
 ghost use Rattle.serde_json.specs.View.{view};
-ghost use Rattle.selector.specs.Views as selector;
-ghost use Rattle.lists.specs.Labels.{labels_by, labels_of, labels_value};
+ghost use Rattle.selector.specs.Fields.{attributes};
+ghost use Rattle.selector.specs.Requirement.{selects};
+ghost use Rattle.selector.specs.Views as views;
+ghost use Rattle.lists.specs.Labels.{labels_by, labels_of, labels_value, name_in, name_of};
 
 use crate::finding::texts_at;
 use json::{Error, Scratch};
@@ -18,7 +20,7 @@ use std::collections::BTreeMap;
 
 /// The labels that a value gives.
 fn labels_in(alloc: Global, labels: Option<&Value>) -> Result<BTreeMap<String, String>, AllocError>
-    ensures { IfOk result (λ m. selector.labels_of m ≡ labels_by (option_map (λ v. view v.now) labels.entry)) }
+    ensures { IfOk result (λ m. views.labels_of m ≡ labels_by (option_map (λ v. view v.now) labels.entry)) }
 {
     let Some(members) = labels.and_then(Value::as_object) else {
         return Ok(BTreeMap::new(alloc));
@@ -37,7 +39,7 @@ fn labels_value(value: &Value) -> Option<&Value>
 
 /// The same of a text that is read whole.
 fn read_whole(alloc: Global, text: &str) -> Result<BTreeMap<String, String>, AllocError>
-    ensures { IfOk result (λ m. selector.labels_of m ≡ labels_of text.now) }
+    ensures { IfOk result (λ m. views.labels_of m ≡ labels_of text.now) }
 {
     let Some(value) = read_text(alloc, text)? else {
         return Ok(BTreeMap::new(alloc));
@@ -51,12 +53,36 @@ fn read_labels(
     text: &str,
     scratch: &mut Scratch,
 ) -> Result<BTreeMap<String, String>, AllocError>
-    ensures { IfOk result (λ m. selector.labels_of m ≡ labels_of text.now) }
+    ensures { IfOk result (λ m. views.labels_of m ≡ labels_of text.now) }
 {
     match texts_at(alloc, text, &["metadata", "labels"], scratch) {
         Ok(labels) => Ok(labels),
         Err(Error::OutOfMemory) => Err(AllocError),
         Err(_) => read_whole(alloc, text),
+    }
+}
+
+fn name_in(value: &Value) -> Option<&str>
+    ensures { option_map (λ n. n.now) result ≡ name_in (view value.now) }
+{
+    value.get("metadata")?.get("name")?.as_str()
+}
+
+/// Whether an object of these labels is selected; its name is read where it is asked for.
+pub(crate) fn is_taken(
+    alloc: Global,
+    selector: &Selector,
+    labels: &BTreeMap<String, String>,
+    text: &str,
+) -> Result<bool, AllocError>
+    ensures { IfOk result (λ b. b ≡ selects selector.now (attributes (name_of text.now) (views.labels_of labels.now))) }
+{
+    if !selector.asks_name() {
+        return Ok(selector.matches(labels));
+    }
+    match read_text(alloc, text)? {
+        Some(value) => Ok(selector.matches_named(labels, name_in(&value))),
+        None => Ok(selector.matches(labels)),
     }
 }
 
@@ -86,7 +112,7 @@ impl LabelReader {
 
     /// The labels that an object's text gives.
     pub(crate) fn labels_of(&mut self, text: &str) -> Result<BTreeMap<String, String>, AllocError>
-        ensures { IfOk result (λ m. selector.labels_of m ≡ labels_of text.now) }
+        ensures { IfOk result (λ m. views.labels_of m ≡ labels_of text.now) }
     {
         let mut scratch = self.take_scratch()?;
         let labels = read_labels(self.alloc, text, &mut scratch);
@@ -95,7 +121,7 @@ impl LabelReader {
     }
 }
 
-/// The objects whose labels a selector takes.
+/// The objects that a selector takes.
 #[derive(Drop)]
 pub(crate) struct Labelled<'a> {
     pub(crate) alloc: Global,
@@ -117,7 +143,7 @@ impl<'a> Labelled<'a> {
 
     /// The labels that an object's text gives.
     fn labels_of(&self, text: &str) -> Result<BTreeMap<String, String>, AllocError>
-        ensures { IfOk result (λ m. selector.labels_of m ≡ labels_of text.now) }
+        ensures { IfOk result (λ m. views.labels_of m ≡ labels_of text.now) }
     {
         let mut reader = self.reader.replace(LabelReader::new(self.alloc));
         let labels = reader.labels_of(text);
@@ -128,15 +154,15 @@ impl<'a> Labelled<'a> {
 
 impl Keep for Labelled<'_> {
     ghost use Rattle.selector.specs.Requirement.{selects};
-    ghost use Rattle.lists.specs.Labels.{labels_of};
+    ghost use Rattle.lists.specs.Labels.{attributes_of};
 
-    ghost kept = { λ l text. selects l.selector.now (labels_of text) };
+    ghost kept = { λ l text. selects l.selector.now (attributes_of text) };
 
-    // The text isn't read where nothing is asked of its labels.
+    // The text isn't read where nothing is asked.
     fn keeps(&self, text: &str) -> Result<bool, AllocError> {
         if self.selector.is_all() {
             return Ok(true);
         }
-        Ok(self.selector.matches(&self.labels_of(text)?))
+        is_taken(self.alloc, self.selector, &self.labels_of(text)?, text)
     }
 }

@@ -1,4 +1,4 @@
-//! Lists of objects: page by page, of a revision, by label selectors (Kubernetes documentation, "Kubernetes API
+//! Lists of objects: page by page, of a revision, by selectors (Kubernetes documentation, "Kubernetes API
 //! Concepts", "Retrieving large results sets in chunks"). Watches are `watchline`'s.
 //!
 //! The answer to a list is the text of the page that is asked for: of the objects that are seen at the list's
@@ -7,7 +7,7 @@
 //! ask for the labels of one text after another, as watches do, the labels of the last texts are kept.
 //!
 //! Stands on `history` for what is seen, `revstore` for the rows, `selector` and `params` for what is asked,
-//! `json_values` for labels, and `form_urlencoded` for the queries of its laws.
+//! `json_values` for labels and names, and `form_urlencoded` for the queries of its laws.
 #![tactic(auto)]
 
 mod collection;

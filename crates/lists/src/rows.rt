@@ -118,7 +118,7 @@ pub(crate) fn next_rows(
     Ok((rows, next))
 }
 
-/// Keeps a row whose labels are selected.
+/// Keeps a row that is selected.
 fn push_selected(keep: &Labelled<'_>, found: &mut Vec<Entry>, row: Entry) -> Result<(), Fault>
     ensures { OnOk result (map entry_of found.new.items ≡ map entry_of found.old.items ++ matching keep.now.selector.now (entry_of row ∷ [])) }
 {
@@ -129,7 +129,7 @@ fn push_selected(keep: &Labelled<'_>, found: &mut Vec<Entry>, row: Entry) -> Res
     Ok(())
 }
 
-/// Those of the rows whose labels are selected.
+/// Those of the rows that are selected.
 pub(crate) fn matching(
     alloc: Global,
     selector: &Selector,

@@ -1,18 +1,20 @@
 -- What a query says word for word, it says leniently too: each parameter is read alike, or not at all.
-use Rattle.std.proofs.Common.{◌≡◌, ℕ, Bool, true, false, cond, ◌||◌, List, [], ◌∷◌, Option, Some, None, option_map, map, codes, is_ok, refl, sym, ap, ap₂, subst, ◌∙◌, true≢false}
+use Rattle.std.proofs.Common.{◌≡◌, ℕ, Bool, true, false, cond, ◌||◌, List, [], ◌∷◌, Some, None, option_map, unwrap_or, append-nil, codes, is_ok, refl, sym, ap, ◌∙◌, true≢false}
 use Rattle.std.specs.declared.result.Result.TheVariants.{Ok, Err}
 use Rattle.std.specs.Cmp.Lexicographic.{bytes_decides}
 use Rattle.std.specs.Str.{bytes_eq}
 use Rattle.names.specs.Decimals.{decimal_up_to, version_of}
+use Rattle.selector.specs.Fields.{fields_of}
 use Rattle.selector.specs.Grammar.{parse_selector}
+use Rattle.selector.specs.Requirement.{Requirement}
 use Rattle.params.specs.declared.parameter.Parameter.{Parameter}
 use Rattle.params.specs.declared.parameter.Parameter.TheVariants as parameter
 use Rattle.params.specs.declared.params.Asked.{Asked}
 use Rattle.params.specs.declared.params.Asked.TheVariants as asked
-use Rattle.params.specs.Lenient.{LenientReadsAll, dry_run_meant, lenient, pair_meant, truth_meant, validation_meant, value_meant}
+use Rattle.params.specs.Lenient.{LenientReadsAll, asking, dry_run_meant, fields_asked, fields_meant, lenient, truth_meant, validation_meant, value_meant}
 use Rattle.params.specs.Parameters.{name_of}
 use Rattle.params.specs.Query.{Pairs, first_at, value_of}
-use Rattle.params.specs.Reading.{Read, ◌>>=◌, absent_in, applied, deleted, got, listed, listed_or_watched, manager_in, manager_or, match_in, number_in, or_bad, params_of, selected, selector_in, strict_in, text_or, together, token_in, truth_in, version_in, watched, written}
+use Rattle.params.specs.Reading.{Read, ◌>>=◌, absent_in, applied, deleted, got, listed, listed_or_watched, manager_in, manager_or, match_in, number_in, or_bad, params_of, selected, selector_in, strict_in, text_or, token_in, truth_in, version_in, watched, written}
 use Rattle.params.specs.Texts.{manager_of, match_of, token_of, truth_of}
 use Rattle.params.specs.Values.{Values}
 
@@ -83,6 +85,10 @@ dry_run_kept : (value : List ℕ) → Keeps (absent_by parameter.DryRun value) (
 dry_run_kept [] x is = is
 dry_run_kept (b ∷ bs) x is = no_ok parameter.DryRun x is
 
+fields_kept : (value : List ℕ) → Keeps (absent_by parameter.FieldSelector value) (absent_by parameter.FieldSelector (fields_meant value))
+fields_kept [] x is = is
+fields_kept (b ∷ bs) x is = no_ok parameter.FieldSelector x is
+
 -- ---- calls
 
 module _ (pairs : Pairs) where
@@ -100,6 +106,9 @@ module _ (pairs : Pairs) where
 
   dry_run_keeps : Keeps (absent_in parameter.DryRun pairs) (absent_in parameter.DryRun meant)
   dry_run_keeps x e = ap (absent_by parameter.DryRun) (value_is parameter.DryRun refl) ∙ dry_run_kept (value_of parameter.DryRun pairs) x e
+
+  fields_keep : Keeps (absent_in parameter.FieldSelector pairs) (absent_in parameter.FieldSelector meant)
+  fields_keep x e = ap (absent_by parameter.FieldSelector) (value_is parameter.FieldSelector refl) ∙ fields_kept (value_of parameter.FieldSelector pairs) x e
 
   -- a parameter that is read as it stands
   as_it_stands : (p : Parameter) → ((v : List ℕ) → value_meant (name_of p) v ≡ v) → value_of p meant ≡ value_of p pairs
@@ -138,7 +147,7 @@ module _ (pairs : Pairs) where
   listed_keeps : Keeps (listed pairs) (listed meant)
   listed_keeps =
       then _ _ _ _ token_keeps (λ token.
-      then _ _ _ _ (absent_keeps parameter.FieldSelector (λ v. refl)) (λ fields.
+      then _ _ _ _ fields_keep (λ fields.
       then _ _ _ _ selector_keeps (λ selector.
       then _ _ _ _ (number_keeps parameter.Limit 9223372036854775807 (λ v. refl)) (λ limit.
       then _ _ _ _ version_keeps (λ version.
@@ -148,7 +157,7 @@ module _ (pairs : Pairs) where
   watched_keeps : Keeps (watched pairs) (watched meant)
   watched_keeps =
       then _ _ _ _ (truth_keeps parameter.AllowWatchBookmarks refl (λ v. refl)) (λ bookmarks.
-      then _ _ _ _ (absent_keeps parameter.FieldSelector (λ v. refl)) (λ fields.
+      then _ _ _ _ fields_keep (λ fields.
       then _ _ _ _ selector_keeps (λ selector.
       then _ _ _ _ version_keeps (λ version.
       then _ _ _ _ (absent_keeps parameter.ResourceVersionMatch (λ v. refl)) (λ match.
@@ -178,10 +187,54 @@ module _ (pairs : Pairs) where
   deleted_keeps : Keeps (deleted pairs) (deleted meant)
   deleted_keeps = then _ _ _ _ dry_run_keeps (λ u. same _ _ refl)
 
+kept : (asked : Asked) (pairs : Pairs) → Keeps (params_of asked pairs) (params_of asked (lenient pairs))
+kept asked.Get pairs = got_keeps pairs
+kept asked.List pairs = listed_or_watched_keeps pairs
+kept asked.Post pairs = written_keeps pairs
+kept asked.Put pairs = written_keeps pairs
+kept asked.Apply pairs = applied_keeps pairs
+kept asked.Delete pairs = deleted_keeps pairs
+
+-- ---- what is read word for word asks for no name
+
+-- what is read first, and with which the rest is read
+first : {A B : Type 0} (r : Read A) (f : A → Read B) (y : B) → (r >>= f) ≡ Ok y → (x : A) × (r ≡ Ok x) × (f x ≡ Ok y)
+first (Ok x) f y is = (x, refl, is)
+first (Err p) f y is = no_ok p y is
+
+none_there : (value : List ℕ) (x : Unit {0}) → absent_by parameter.FieldSelector value ≡ Ok x → unwrap_or (fields_of value) [] ≡ []
+none_there [] x is = refl
+none_there (b ∷ bs) x is = no_ok parameter.FieldSelector x is
+
+module _ (pairs : Pairs) where
+  abbrev AsksNoName : Type 0
+  AsksNoName = fields_asked asked.List pairs ≡ []
+
+  after_it : {A B : Type 0} (r : Read A) (f : A → Unit {0} → Read B) (y : B) → (r >>= λ x. absent_in parameter.FieldSelector pairs >>= f x) ≡ Ok y → AsksNoName
+  after_it r f y is =
+      let found = first r (λ x. absent_in parameter.FieldSelector pairs >>= f x) y is in
+      let absent = first (absent_in parameter.FieldSelector pairs) (f found.0) y found.2 in
+      none_there (value_of parameter.FieldSelector pairs) absent.0 absent.1
+
+  none_by_watch : (b : Bool) (y : Values) → cond b (watched pairs) (listed pairs) ≡ Ok y → AsksNoName
+  none_by_watch true y is = after_it (truth_in parameter.AllowWatchBookmarks pairs) _ y is
+  none_by_watch false y is = after_it (token_in pairs) _ y is
+
+  none_listed : (y : Values) → listed_or_watched pairs ≡ Ok y → AsksNoName
+  none_listed y is = let found = first (truth_in parameter.Watch pairs) (λ b. cond b (watched pairs) (listed pairs)) y is in none_by_watch found.0 y found.2
+
+asks_no_name : (asked : Asked) (pairs : Pairs) (values : Values) → params_of asked pairs ≡ Ok values → fields_asked asked pairs ≡ []
+asks_no_name asked.Get pairs values is = refl
+asks_no_name asked.List pairs values is = none_listed pairs values is
+asks_no_name asked.Post pairs values is = refl
+asks_no_name asked.Put pairs values is = refl
+asks_no_name asked.Apply pairs values is = refl
+asks_no_name asked.Delete pairs values is = refl
+
+asking_nothing : (requirements : List Requirement) (values : Values) → requirements ≡ [] → asking requirements values ≡ values
+asking_nothing requirements values none = rw (none, append-nil values.selector) refl
+
 pub lenient_reads_all : LenientReadsAll
-lenient_reads_all asked.Get pairs values is = got_keeps pairs values is
-lenient_reads_all asked.List pairs values is = listed_or_watched_keeps pairs values is
-lenient_reads_all asked.Post pairs values is = written_keeps pairs values is
-lenient_reads_all asked.Put pairs values is = written_keeps pairs values is
-lenient_reads_all asked.Apply pairs values is = applied_keeps pairs values is
-lenient_reads_all asked.Delete pairs values is = deleted_keeps pairs values is
+lenient_reads_all asked pairs values is =
+    let asks : List Requirement = fields_asked asked pairs in
+    ap (λ r. r >>= λ v. Ok (asking asks v)) (kept asked pairs values is) ∙ ap Ok (asking_nothing asks values (asks_no_name asked pairs values is))

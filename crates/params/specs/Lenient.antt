@@ -1,13 +1,16 @@
 -- What a query means of a type that clients discover, since they send more than is served (Kubernetes documentation, "Kubernetes API
--- Concepts", "Field validation", "Dry-run").
-use Rattle.std.specs.Prelude.{◌≡◌, ℕ, Bool, ◌||◌, if◌then◌else◌, List, [], map, codes}
+-- Concepts", "Field validation", "Dry-run"; "Field Selectors").
+use Rattle.std.specs.Prelude.{◌≡◌, ℕ, Bool, ◌||◌, if◌then◌else◌, List, [], ◌++◌, map, is_some, unwrap_or, codes}
 use Rattle.std.specs.declared.result.Result.TheVariants.{Ok}
 use Rattle.std.specs.Str.{bytes_eq}
-use Rattle.params.specs.declared.parameter.Parameter.TheVariants.{AllowWatchBookmarks, DryRun, FieldValidation, Force, Watch}
+use Rattle.selector.specs.Fields.{fields_of}
+use Rattle.selector.specs.Requirement.{Requirement}
+use Rattle.params.specs.declared.parameter.Parameter.TheVariants.{AllowWatchBookmarks, DryRun, FieldSelector, FieldValidation, Force, Watch}
 use Rattle.params.specs.declared.params.Asked.{Asked}
+use Rattle.params.specs.declared.params.Asked.TheVariants as asked
 use Rattle.params.specs.Parameters.{name_of}
 use Rattle.params.specs.Query.{Pairs, value_of}
-use Rattle.params.specs.Reading.{params_of}
+use Rattle.params.specs.Reading.{Read, ◌>>=◌, params_of}
 use Rattle.params.specs.Values.{Values}
 
 -- a truth value may begin with a capital letter, as Python prints it
@@ -25,6 +28,10 @@ validation_meant value = if bytes_eq value (codes "Ignore") || bytes_eq value (c
 abbrev pub dry_run_meant : List ℕ → List ℕ
 dry_run_meant value = if bytes_eq value (codes "All") then [] else value
 
+-- what asks for a name is read beside the rest, which is read as if it weren't there
+abbrev pub fields_meant : List ℕ → List ℕ
+fields_meant value = if is_some (fields_of value) then [] else value
+
 abbrev pub is_truth : List ℕ → Bool
 is_truth name = bytes_eq name (name_of AllowWatchBookmarks) || bytes_eq name (name_of Force) || bytes_eq name (name_of Watch)
 
@@ -34,6 +41,7 @@ value_meant name value =
     if is_truth name then truth_meant value
     else if bytes_eq name (name_of FieldValidation) then validation_meant value
     else if bytes_eq name (name_of DryRun) then dry_run_meant value
+    else if bytes_eq name (name_of FieldSelector) then fields_meant value
     else value
 
 abbrev pub pair_meant : List ℕ × List ℕ → List ℕ × List ℕ
@@ -43,9 +51,22 @@ pair_meant pair = (pair.0, value_meant pair.0 pair.1)
 abbrev pub lenient : Pairs → Pairs
 lenient pairs = map pair_meant pairs
 
--- the query as it is read: leniently or word for word
-abbrev pub pairs_read : Bool → Pairs → Pairs
-pairs_read is_lenient pairs = if is_lenient then lenient pairs else pairs
+-- what a list or a watch asks of the names of objects
+abbrev pub fields_asked : Asked → Pairs → List Requirement
+fields_asked asked.List pairs = unwrap_or (fields_of (value_of FieldSelector pairs)) []
+fields_asked other pairs = []
+
+-- objects have to meet these requirements, too
+abbrev pub asking : List Requirement → Values → Values
+asking requirements values = record values { selector = values.selector ++ requirements }
+
+-- what the query says that is meant
+abbrev pub values_meant : Asked → Pairs → Read Values
+values_meant asked pairs = params_of asked (lenient pairs) >>= λ values. Ok (asking (fields_asked asked pairs) values)
+
+-- what a query says as it is read: leniently or word for word
+abbrev pub values_read : Bool → Asked → Pairs → Read Values
+values_read is_lenient asked pairs = if is_lenient then values_meant asked pairs else params_of asked pairs
 
 -- what is planned is to be answered, and not to be stored
 abbrev pub is_dry_run : Pairs → Bool
@@ -55,4 +76,4 @@ is_dry_run pairs = bytes_eq (value_of DryRun pairs) (codes "All")
 
 -- what a query says word for word, it says leniently too
 abbrev pub LenientReadsAll : Type 0
-LenientReadsAll = (asked : Asked) (pairs : Pairs) (values : Values) → params_of asked pairs ≡ Ok values → params_of asked (lenient pairs) ≡ Ok values
+LenientReadsAll = (asked : Asked) (pairs : Pairs) (values : Values) → params_of asked pairs ≡ Ok values → values_meant asked pairs ≡ Ok values

@@ -1,8 +1,9 @@
 //! What a query means of a type that clients discover: single values here, whole queries in `query`.
 
 ghost use Rattle.std.specs.Prelude.{◌≡◌, IfOk, string_bytes};
-ghost use Rattle.params.specs.Lenient.{LenientReadsAll, dry_run_meant, pair_meant, truth_meant, validation_meant, value_meant};
+ghost use Rattle.params.specs.Lenient.{LenientReadsAll, dry_run_meant, fields_meant, pair_meant, truth_meant, validation_meant, value_meant};
 
+use selector::Selector;
 use std::alloc::{AllocError, Global};
 
 fn truth_meant(value: &str) -> &str
@@ -33,14 +34,24 @@ fn dry_run_meant(value: &str) -> &str
     }
 }
 
-fn value_meant<'a>(name: &str, value: &'a str) -> &'a str
-    ensures { result.now ≡ value_meant name.now value.now }
+fn fields_meant(alloc: Global, value: &str) -> Result<&str, AllocError>
+    ensures { IfOk result (λ v. v.now ≡ fields_meant value.now) }
+{
+    match Selector::read_fields(alloc, value)? {
+        Some(_) => Ok(""),
+        None => Ok(value),
+    }
+}
+
+fn value_meant<'a>(alloc: Global, name: &str, value: &'a str) -> Result<&'a str, AllocError>
+    ensures { IfOk result (λ v. v.now ≡ value_meant name.now value.now) }
 {
     match name {
-        "allowWatchBookmarks" | "force" | "watch" => truth_meant(value),
-        "fieldValidation" => validation_meant(value),
-        "dryRun" => dry_run_meant(value),
-        _ => value,
+        "allowWatchBookmarks" | "force" | "watch" => Ok(truth_meant(value)),
+        "fieldValidation" => Ok(validation_meant(value)),
+        "dryRun" => Ok(dry_run_meant(value)),
+        "fieldSelector" => fields_meant(alloc, value),
+        _ => Ok(value),
     }
 }
 
@@ -52,7 +63,7 @@ pub(crate) fn pair_meant(
     ensures { IfOk result (λ p. (string_bytes p.0, string_bytes p.1) ≡ pair_meant (string_bytes pair.0, string_bytes pair.1)) }
 {
     let (name, value) = pair;
-    let value = String::from_str(alloc, value_meant(name.as_str(), value.as_str()))?;
+    let value = String::from_str(alloc, value_meant(alloc, name.as_str(), value.as_str())?)?;
     Ok((name, value))
 }
 

@@ -2,7 +2,7 @@
 //! `query`.
 
 ghost use Rattle.std.specs.Prelude.{◌≡◌, IfOk, option_map, string_bytes};
-ghost use Rattle.params.specs.Lenient.{is_dry_run, lenient};
+ghost use Rattle.params.specs.Lenient.{asking, fields_asked, is_dry_run, values_meant};
 ghost use Rattle.params.specs.Query.{pairs_in};
 ghost use Rattle.params.specs.Reading.{applied, deleted, got, is_any, listed, listed_or_watched, match_fits, params_of, together, token_fits, watched, written};
 ghost use Rattle.params.specs.Texts.{ReadsBack, token_text};
@@ -243,6 +243,16 @@ fn params_of(alloc: Global, asked: Asked, query: &Query) -> Result<Params, Param
     }
 }
 
+/// What a list or a watch asks of the names of objects.
+fn fields_asked(alloc: Global, asked: Asked, query: &Query) -> Result<Selector, AllocError>
+    ensures { IfOk result (λ s. s ≡ fields_asked asked (pairs_of query.now.pairs.items)) }
+{
+    match asked {
+        Asked::List => query.fields(alloc),
+        _ => Ok(Selector::all(alloc)),
+    }
+}
+
 /// Whether a query asks that nothing be stored: its `dryRun` is `All` (Kubernetes documentation, "Kubernetes API Concepts",
 /// "Dry-run").
 pub fn is_dry_run(alloc: Global, query: &[u8]) -> Result<bool, AllocError>
@@ -281,12 +291,25 @@ impl Params {
         params_of(alloc, asked, &query)
     }
 
-    /// Reads them as `read` does of the query that is meant: `Ignore` and `Warn` of `fieldValidation` are `Strict`, `True` and
-    /// `False` are the truth values, and `All` of `dryRun` is absence (`is_dry_run` tells it).
-    pub fn read_leniently(alloc: Global, asked: Asked, query: &[u8]) -> Result<Params, ParamsFault>
-        ensures { Returns values_of result (params_of asked (lenient (pairs_in query.now))) }
+    /// The same, and objects have to meet this selector, too.
+    fn asking(self, fields: Selector) -> Result<Params, AllocError>
+        ensures { IfOk result (λ p. values_of p ≡ asking fields (values_of self)) }
     {
-        let query = Query::read(alloc, query)?.lenient(alloc)?;
-        params_of(alloc, asked, &query)
+        Ok(Params {
+            selector: self.selector.and(fields)?,
+            ..self
+        })
+    }
+
+    /// Reads them as `read` does of the query that is meant: `Ignore` and `Warn` of `fieldValidation` are `Strict`, `True` and
+    /// `False` are the truth values, and `All` of `dryRun` is absence (`is_dry_run` tells it). Of a list or a watch
+    /// `metadata.name=NAME` of `fieldSelector` is a requirement beside those of `labelSelector`.
+    pub fn read_leniently(alloc: Global, asked: Asked, query: &[u8]) -> Result<Params, ParamsFault>
+        ensures { Returns values_of result (values_meant asked (pairs_in query.now)) }
+    {
+        let query = Query::read(alloc, query)?;
+        let fields = fields_asked(alloc, asked, &query)?;
+        let params = params_of(alloc, asked, &query.lenient(alloc)?)?;
+        Ok(params.asking(fields)?)
     }
 }

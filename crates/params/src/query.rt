@@ -1,7 +1,9 @@
 //! The pairs of a query, and what single parameters say. Which go together stands in `params`.
 
-ghost use Rattle.std.specs.Prelude.{◌≡◌, IfOk, ⊤, option_map, string_bytes};
+ghost use Rattle.std.specs.Prelude.{◌≡◌, [], IfOk, ⊤, option_map, string_bytes, unwrap_or};
+ghost use Rattle.selector.specs.Fields.{fields_of};
 ghost use Rattle.params.specs.Lenient.{is_dry_run, lenient};
+ghost use Rattle.params.specs.declared.parameter.Parameter.TheVariants.{FieldSelector};
 ghost use Rattle.params.specs.Query.{first_at, pairs_in, value_of};
 ghost use Rattle.params.specs.Reading.{absent_in, manager_in, manager_or, match_in, number_in, selector_in, strict_in, token_in, truth_in, version_in};
 ghost use Rattle.params.specs.Views.{Returns, pairs_of, token_view};
@@ -165,6 +167,16 @@ impl Query {
             Ok(selector) => Ok(selector),
             Err(ReadError::Fault(_)) => Err(ParamsFault::Bad(Parameter::LabelSelector)),
             Err(ReadError::Memory) => Err(ParamsFault::Memory),
+        }
+    }
+
+    /// What it asks of the names of objects; nothing where it can't be read.
+    pub(crate) fn fields(&self, alloc: Global) -> Result<Selector, AllocError>
+        ensures { IfOk result (λ s. s ≡ unwrap_or (fields_of (value_of FieldSelector (pairs_of self.now.pairs.items))) []) }
+    {
+        match Selector::read_fields(alloc, self.value(Parameter::FieldSelector))? {
+            Some(selector) => Ok(selector),
+            None => Ok(Selector::all(alloc)),
         }
     }
 

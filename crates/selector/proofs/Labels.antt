@@ -1,6 +1,6 @@
 -- Values of labels, looked up by their bytes.
-use Rattle.std.proofs.Common.{◌≡◌, ℕ, Bool, true, false, cond, ◌&&◌, ◌||◌, Bor, List, [], ◌∷◌, map, Option, Some, None, Global, String, nat_cmp, refl, ap}
-use Rattle.std.specs.Prelude.{option_map, option_copied, string_bytes}
+use Rattle.std.proofs.Common.{◌≡◌, ℕ, Bool, true, false, cond, ◌&&◌, ◌||◌, List, [], ◌∷◌, map, Option, Some, Global, String, nat_cmp, refl, ap}
+use Rattle.std.specs.Prelude.{option_map, string_bytes}
 use Rattle.std.specs.BTreeMap.{is_at}
 use Rattle.std.specs.Cmp.Lexicographic.{slice_cmp}
 use Rattle.std.specs.List.{list_any, list_all}
@@ -24,7 +24,3 @@ list_any-map f p (x ∷ xs) = ap (λ b. p (f x) || b) (list_any-map f p xs)
 pub list_all-map : {A B : Type 0} (f : A → B) (p : B → Bool) (xs : List A) → list_all (λ x. p (f x)) xs ≡ list_all p (map f xs)
 list_all-map f p [] = refl
 list_all-map f p (x ∷ xs) = ap (λ b. p (f x) && b) (list_all-map f p xs)
-
-pub copied_bytes : (r : Option (Bor (String Global))) → option_map (λ v. string_bytes v.now) r ≡ option_map string_bytes (option_copied r)
-copied_bytes None = refl
-copied_bytes (Some v) = refl

@@ -1,6 +1,8 @@
+pub mod Beginnings
 pub mod Blanks
 pub mod Found
 pub mod Labels
+pub mod Named
 pub mod Parts
 pub mod Reading
 pub mod Sets

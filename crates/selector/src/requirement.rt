@@ -1,7 +1,10 @@
-//! One requirement on an object's labels: how it is read, when it is met, whether it is the same as another, and copies. A whole
-//! selector stands in `selector`.
+//! One requirement on an object's labels or its name: how it is read of labels, when it is met, whether it is the same as another, and
+//! copies. A whole selector stands in `selector`, what is asked of names in `fields`.
 
+ghost use Rattle.std.specs.List.{list_any};
 ghost use Rattle.std.specs.Prelude.{◌≡◌, ◌↔◌, [], true, map, IfOk, option_map, string_bytes};
+ghost use Rattle.std.specs.Str.{bytes_eq};
+ghost use Rattle.selector.specs.Fields.{attributes, name_key};
 ghost use Rattle.selector.specs.Grammar.{Returns, required, key_of, value_of, values_of, outside_of, among_of, worded, set_of, equal, different, signed, plain_of, part_of, parts_of};
 ghost use Rattle.selector.specs.Labels.{value_at};
 ghost use Rattle.selector.specs.Requirement.{meets};
@@ -12,6 +15,9 @@ use crate::text::{first_part, trimmed};
 use names::{is_label_key, is_label_value};
 use std::alloc::{AllocError, Global};
 use std::collections::BTreeMap;
+
+/// The key under which a requirement asks for an object's name; no label has it.
+pub(crate) const NAME_KEY: &str = ".metadata.name";
 
 /// What is asked of the value at a key.
 #[derive(Debug, Drop)]
@@ -32,14 +38,14 @@ pub(crate) struct Requirement {
 }
 
 impl Condition {
-    fn is_met(&self, value: Option<&String>) -> bool
-        ensures { result ≡ meets (condition_of self.now) (option_map (λ v. string_bytes v.now) value.entry) }
+    fn is_met(&self, value: Option<&str>) -> bool
+        ensures { result ≡ meets (condition_of self.now) (option_map (λ v. v.now) value.entry) }
     {
         match (self, value) {
-            (Condition::Equals(wanted), Some(value)) => value == wanted,
-            (Condition::Differs(other), Some(value)) => value != other,
-            (Condition::Among(values), Some(value)) => values.contains(value),
-            (Condition::Outside(values), Some(value)) => !values.contains(value),
+            (Condition::Equals(wanted), Some(value)) => value == wanted.as_str(),
+            (Condition::Differs(other), Some(value)) => value != other.as_str(),
+            (Condition::Among(values), Some(value)) => has_text(values, value),
+            (Condition::Outside(values), Some(value)) => !has_text(values, value),
             (Condition::Exists, Some(_)) => true,
             (Condition::Absent, Some(_)) => false,
             (Condition::Equals(_) | Condition::Among(_) | Condition::Exists, None) => false,
@@ -78,6 +84,19 @@ impl Condition {
     }
 }
 
+/// The value at a label's key.
+fn label_at<'a>(labels: &'a BTreeMap<String, String>, key: &String) -> Option<&'a str>
+    ensures { option_map (λ v. v.now) result ≡ value_at (string_bytes key.now) (labels_of labels.now) }
+{
+    Some(labels.get(key)?.as_str())
+}
+
+fn has_text(texts: &[String], wanted: &str) -> bool
+    ensures { result ≡ list_any (λ t. bytes_eq t wanted.now) (map string_bytes texts.now) }
+{
+    texts.iter().any(|text| text.as_str() == wanted)
+}
+
 /// Whether these are the same texts, in the same order.
 fn are_same_texts(ones: &Vec<String>, others: &Vec<String>) -> bool
     ensures { (result ≡ true) ↔ (map string_bytes ones.now.items ≡ map string_bytes others.now.items) }
@@ -96,10 +115,32 @@ fn copy_texts(alloc: Global, texts: &[String]) -> Result<Vec<String>, AllocError
 }
 
 impl Requirement {
-    pub(crate) fn is_met(&self, labels: &BTreeMap<String, String>) -> bool
-        ensures { result ≡ meets (condition_of self.now.condition) (value_at (string_bytes self.now.key) (labels_of labels.now)) }
+    /// The value at its key: of the labels, or the name.
+    fn value<'a>(
+        &self,
+        labels: &'a BTreeMap<String, String>,
+        name: Option<&'a str>,
+    ) -> Option<&'a str>
+        ensures { option_map (λ v. v.now) result ≡ value_at (string_bytes self.now.key) (attributes (option_map (λ n. n.now) name.entry) (labels_of labels.now)) }
     {
-        self.condition.is_met(labels.get(&self.key))
+        match name {
+            Some(name) if self.asks_name() => Some(name),
+            _ => label_at(labels, &self.key),
+        }
+    }
+
+    /// Whether it is on the name.
+    pub(crate) fn asks_name(&self) -> bool
+        ensures { result ≡ bytes_eq (string_bytes self.now.key) name_key }
+    {
+        self.key.as_str() == NAME_KEY
+    }
+
+    /// Whether an object of these labels meets it, and of this name, if one is given.
+    pub(crate) fn is_met(&self, labels: &BTreeMap<String, String>, name: Option<&str>) -> bool
+        ensures { result ≡ meets (condition_of self.now.condition) (value_at (string_bytes self.now.key) (attributes (option_map (λ n. n.now) name.entry) (labels_of labels.now))) }
+    {
+        self.condition.is_met(self.value(labels, name))
     }
 
     fn is_same(&self, other: &Requirement) -> bool

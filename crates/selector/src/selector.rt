@@ -1,18 +1,21 @@
 //! A list of requirements, all of which have to be met. One requirement stands in `requirement`.
 
-ghost use Rattle.std.specs.Prelude.{◌≡◌, ◌↔◌, [], true, IfOk};
+ghost use Rattle.std.specs.Prelude.{◌≡◌, ◌↔◌, ◌++◌, [], false, true, IfOk, option_map};
+ghost use Rattle.names.specs.Names.{is_label_key};
+ghost use Rattle.selector.specs.Fields.{LabelsDecide, asks_name, attributes, fields_of, name_key};
 ghost use Rattle.selector.specs.Grammar.{Returns, parse_selector};
 ghost use Rattle.selector.specs.Requirement.{selects};
 ghost use Rattle.selector.specs.Views.{labels_of};
 
 use crate::fault::{Fault, ReadError};
+use crate::fields::field_of;
 use crate::requirement::{Requirement, are_same, copy_all, parts_of};
 use crate::text::has_paired_brackets;
 use std::alloc::{AllocError, Global};
 use std::collections::BTreeMap;
 use std::marker::Model;
 
-/// Requirements on an object's labels, all of which have to be met; none select every object. Contracts see
+/// Requirements on an object's labels and its name, all of which have to be met; none select every object. Contracts see
 /// the list of the requirements.
 #[derive(Debug, Drop)]
 pub struct Selector {
@@ -57,6 +60,31 @@ impl Selector {
         Ok(Selector { requirements })
     }
 
+    /// Reads `metadata.name=NAME`, also with `==` or `!=`, of a name that an object can have; the empty text selects every object.
+    /// None of any other text (Kubernetes documentation, "Field Selectors").
+    pub fn read_fields(alloc: Global, text: &str) -> Result<Option<Selector>, AllocError>
+        ensures { IfOk result (λ s. s ≡ fields_of text.now) }
+    {
+        if text.is_empty() {
+            return Ok(Some(Selector::all(alloc)));
+        }
+        let Some(requirement) = field_of(alloc, text)? else {
+            return Ok(None);
+        };
+        let requirements = vec![in alloc; requirement]?;
+        Ok(Some(Selector { requirements }))
+    }
+
+    /// Asks what this one asks, then what the other does.
+    pub fn and(self, other: Selector) -> Result<Selector, AllocError>
+        ensures { IfOk result (λ s. s ≡ self ++ other) }
+    {
+        let mut requirements = self.requirements;
+        let mut more = other.requirements;
+        requirements.append(&mut more)?;
+        Ok(Selector { requirements })
+    }
+
     /// Whether nothing is asked, so that every object is selected.
     pub fn is_all(&self) -> bool
         ensures { (result ≡ true) ↔ (self.now ≡ []) }
@@ -79,12 +107,30 @@ impl Selector {
         Ok(Selector { requirements })
     }
 
+    /// Whether an object's name is asked for, by a key that no label has; where it isn't, the labels alone decide.
+    pub fn asks_name(&self) -> bool
+        ensures value { result ≡ asks_name self.now }
+        ensures labels_decide { result ≡ false → LabelsDecide self.now }
+        ensures no_label { is_label_key name_key ≡ false }
+    {
+        self.requirements
+            .iter()
+            .any(|requirement| requirement.asks_name())
+    }
+
     /// Whether an object with these labels is selected. Takes no memory.
     pub fn matches(&self, labels: &BTreeMap<String, String>) -> bool
         ensures { result ≡ selects self.now (labels_of labels.now) }
     {
+        self.matches_named(labels, None)
+    }
+
+    /// Whether an object with these labels is selected that has this name, if one is given. Takes no memory.
+    pub fn matches_named(&self, labels: &BTreeMap<String, String>, name: Option<&str>) -> bool
+        ensures { result ≡ selects self.now (attributes (option_map (λ n. n.now) name.entry) (labels_of labels.now)) }
+    {
         self.requirements
             .iter()
-            .all(|requirement| requirement.is_met(labels))
+            .all(|requirement| requirement.is_met(labels, name))
     }
 }

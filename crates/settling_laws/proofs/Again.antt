@@ -12,7 +12,7 @@ use Rattle.api_request.specs.Calls.{Call}
 use Rattle.requests.specs.Asks.{Asks}
 use Rattle.requests.specs.Decision.{accepted}
 use Rattle.indexer.specs.Objects.{Stored}
-use Rattle.lists.specs.Labels.{labels_of}
+use Rattle.lists.specs.Labels.{attributes_of}
 use Rattle.selector.specs.Requirement.{selects}
 use Rattle.line_laws.specs.Listed.{AreReadAs}
 use Rattle.decoder.specs.Wanted.{Wanted}
@@ -37,7 +37,7 @@ module _ (task : Task) (kind : ℕ) (apart : kind ≢ task.settings.kind) where
   -- the object isn't one of those that are counted
   unselected : (body : List ℕ) → selection task (place_key task kind) body ≡ false
   unselected body =
-      ap (λ (b : Bool). (b && is_in_namespace task.settings.namespace (place_key task kind)) && selects task.requirements (labels_of body)) (ne_eqb kind task.settings.kind apart)
+      ap (λ (b : Bool). (b && is_in_namespace task.settings.namespace (place_key task kind)) && selects task.requirements (attributes_of body)) (ne_eqb kind task.settings.kind apart)
 
   abbrev kept : Key → Option Object → Option Object
   kept = kept_object (selection task)

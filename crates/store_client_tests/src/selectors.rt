@@ -1,10 +1,11 @@
-//! Examples of the documentation "Labels and Selectors", and texts that are no selector. The parameter that has one is
+//! Examples of the documentation "Labels and Selectors", field selectors, and texts that are no selector. The parameter that has one is
 //! tested in `parameters`.
 //!
 //! | question | answer |
 //! |---|---|
 //! | `select {TEXT}` | whether the selector takes a frontend in production, and whether it takes an object with one label without a value |
 //! | `fault {TEXT}` | why the text is no selector |
+//! | `name {TEXT}` | whether the field selector takes an object of the name `w1`, and whether it takes one without a name |
 
 use selector::Selector;
 use std::alloc::Global;
@@ -22,6 +23,7 @@ impl Answers for Selectors {
         match call {
             "select" => selected(alloc, text),
             "fault" => in_words(alloc, Selector::read(alloc, text).err()),
+            "name" => named(alloc, text),
             _ => Err("no such call".into()),
         }
     }
@@ -44,6 +46,15 @@ fn selected(alloc: Global, text: &str) -> Result<String, Fail> {
     in_words(alloc, (prefix, takes(alloc, &selector, "partition=")?))
 }
 
+fn named(alloc: Global, text: &str) -> Result<String, Fail> {
+    let Some(selector) = Selector::read_fields(alloc, text)? else {
+        return Ok(String::from_str(alloc, "none")?);
+    };
+    let labels = BTreeMap::new(alloc);
+    let taken = selector.matches_named(&labels, Some("w1"));
+    in_words(alloc, (taken, selector.matches(&labels)))
+}
+
 const EXAMPLES: &str = r#"selects_by_every_kind_of_part
 select {} => (true, true)
 select {environment = production} => (true, false)
@@ -59,6 +70,25 @@ select { ! partition , tier } => (true, false)
 select {partition in ()} => (false, true)
 select {partition=} => (false, true)
 select {partition,environment notin (qa)} => (false, true)
+
+selects_by_name
+name {} => (true, true)
+name {metadata.name=w1} => (true, false)
+name {metadata.name==w1} => (true, false)
+name {metadata.name!=w1} => (false, true)
+name {metadata.name=w1.old} => (false, false)
+name {metadata.name!=w1.old} => (true, true)
+name {metadata.name=} => none
+name {metadata.name} => none
+name {!metadata.name} => none
+name {metadata.name===w1} => none
+name {metadata.name= w1} => none
+name { metadata.name=w1} => none
+name {metadata.name=W1} => none
+name {metadata.name=w1,metadata.name!=w2} => none
+name {metadata.name in (w1)} => none
+name {metadata.namespace=w1} => none
+name {spec.image=a} => none
 
 the_first_fault_is_the_answer
 fault {tier in (web, db),!old} => None

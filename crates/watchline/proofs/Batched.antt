@@ -15,7 +15,7 @@ use Rattle.history.proofs.Revisions.{later-below, later-drops, later-later, risi
 use Rattle.history.proofs.Befores.{view_one_by_one}
 use Rattle.history.specs.declared.change.Change.{Change as TheChange}
 use Rattle.history.specs.Read.{change_of}
-use Rattle.lists.specs.Labels.{labels_of, selection_of}
+use Rattle.lists.specs.Labels.{attributes_of, selection_of}
 use Rattle.watchline.specs.declared.seen.Seen.{Seen as TheSeen}
 use Rattle.watchline.specs.Views.{seen_change_of}
 use Rattle.watchline.proofs.Putting.{enough}
@@ -172,12 +172,12 @@ left_true true b h = refl
 left_true false b h = h
 
 within : (kind : ℕ) (namespace : Option (List ℕ)) (requirements : List Requirement) (k : Key) (b : List ℕ) → selection_of kind namespace requirements k b ≡ true → is_within kind namespace k ≡ true
-within kind namespace requirements k b h = left_true (is_within kind namespace k) (selects requirements (labels_of b)) h
+within kind namespace requirements k b h = left_true (is_within kind namespace k) (selects requirements (attributes_of b)) h
 
 same_body : (kind : ℕ) (namespace : Option (List ℕ)) (requirements : List Requirement) (k : Key) → is_within kind namespace k ≡ true → (b : Option (List ℕ))
     → if_wanted (selection_of kind namespace requirements) k b ≡ body_if_selected requirements b
 same_body kind namespace requirements k own None = refl
-same_body kind namespace requirements k own (Some b) = ap (λ t. cond (t && selects requirements (labels_of b)) (Some b) None) own
+same_body kind namespace requirements k own (Some b) = ap (λ t. cond (t && selects requirements (attributes_of b)) (Some b) None) own
 
 same_seen : (kind : ℕ) (namespace : Option (List ℕ)) (requirements : List Requirement) (s : Objects) (c : Change) → is_within kind namespace c.key ≡ true
     → seen_of (selection_of kind namespace requirements) s c ≡ seen_by_labels requirements s c

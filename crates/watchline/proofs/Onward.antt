@@ -16,7 +16,7 @@ use Rattle.history.proofs.Paging.{listed_first, listed_past}
 use Rattle.history.proofs.Revisions.{later-drops, later-later, rising-filter, rising_ends, up_to-split}
 use Rattle.history.proofs.Selecting.{entries-selected}
 use Rattle.history.proofs.Views.{state_in_is}
-use Rattle.lists.specs.Labels.{labels_of, selection_of}
+use Rattle.lists.specs.Labels.{attributes_of, selection_of}
 use Rattle.lists.specs.Rows.{Start}
 use Rattle.watchline.specs.declared.opening.InitialEvents.{InitialEvents}
 use Rattle.watchline.specs.declared.opening.InitialEvents.TheVariants.{Changes, NoneSelected, Objects as SomeObjects}
@@ -43,7 +43,7 @@ same_kind kind namespace requirements s =
     ∙ ap (filter (λ e. is_within kind None e.0)) (entries-selected (selection_of kind namespace requirements) s)
     ∙ filter_both (λ e. is_within kind None e.0) (λ e. selection_of kind namespace requirements e.0 e.1.body) (fin.entries s)
     ∙ filter_like (λ e. selection_of kind namespace requirements e.0 e.1.body && is_within kind None e.0) (λ e. selection_of kind namespace requirements e.0 e.1.body)
-    (λ e. absorbs (e.0.kind == kind) (is_in_namespace namespace e.0) (selects requirements (labels_of e.1.body))) (fin.entries s)
+    (λ e. absorbs (e.0.kind == kind) (is_in_namespace namespace e.0) (selects requirements (attributes_of e.1.body))) (fin.entries s)
     ∙ sym (entries-selected (selection_of kind namespace requirements) s)
 
 rows_are : (kind : ℕ) (namespace : Option (List ℕ)) (requirements : List Requirement) (start : Start) (s : Objects)

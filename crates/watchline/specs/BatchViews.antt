@@ -8,12 +8,12 @@ use Rattle.history.specs.History.{Change, Objects, later}
 use Rattle.history.specs.Page.{picked}
 use Rattle.history.specs.Seen.{SeenChange, seen_by}
 use Rattle.history.specs.View.{View, state_in}
-use Rattle.lists.specs.Labels.{labels_of}
+use Rattle.lists.specs.Labels.{attributes_of}
 
--- a body, where its labels meet the requirements: the type and the namespace are those of the changes that are read
+-- a body, where its labels and its name meet the requirements: the type and the namespace are those of the changes that are read
 abbrev pub body_if_selected : List Requirement → Option (List ℕ) → Option (List ℕ)
 body_if_selected requirements None = None
-body_if_selected requirements (Some b) = if selects requirements (labels_of b) then Some b else None
+body_if_selected requirements (Some b) = if selects requirements (attributes_of b) then Some b else None
 
 abbrev pub seen_by_labels : List Requirement → Objects → Change → List SeenChange
 seen_by_labels requirements s c = seen_by c.revision c.key (body_if_selected requirements (option_map (λ o. o.body) (fin.get s c.key))) (body_if_selected requirements c.body)

@@ -55,7 +55,7 @@ fn seen_by(revision: u64, key: Key, before: Option<String>, after: Option<String
     }
 }
 
-/// The body of an object, where its labels are selected.
+/// The body of an object, where it is selected.
 fn body_if_selected(
     labels: &mut LabelCache,
     selector: &Selector,

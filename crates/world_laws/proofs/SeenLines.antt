@@ -12,7 +12,7 @@ use Rattle.objects.specs.ReadBack.{max_version}
 use Rattle.selector.specs.Requirement.{selects}
 use Rattle.indexer.specs.Objects.{Stored}
 use Rattle.lists.specs.Body.{Collection}
-use Rattle.lists.specs.Labels.{labels_of}
+use Rattle.lists.specs.Labels.{attributes_of}
 use Rattle.decoder.specs.Objects.{object_of}
 use Rattle.decoder.specs.Wanted.{Wanted}
 use Rattle.watchline.specs.Lines.{line_of, text_shown, type_of}
@@ -123,7 +123,7 @@ module _ (types : List ServedShape) (task : Task) (is : IsTask types task) where
 
   -- it is of the type, and in the namespace, if one is asked for
   pub is_own : (x : SeenChange) → IsSeenText types (selection task) x → is_within task.settings.kind task.settings.namespace x.key ≡ true
-  is_own x text = (and_parts (is_within task.settings.kind task.settings.namespace x.key) (selects task.requirements (labels_of x.object.body)) text.is_wanted).0
+  is_own x text = (and_parts (is_within task.settings.kind task.settings.namespace x.key) (selects task.requirements (attributes_of x.object.body)) text.is_wanted).0
 
   pub line_read : (x : SeenChange) → IsSeenText types (selection task) x → x.object.revision ≤ max_version → IsReadLine wanted x.kind x.key x.object
   line_read x text low = read_as x.key x.object (is_own x text) low x.kind text.says

@@ -1,0 +1,50 @@
+-- What selectors see of an object, and how a text asks for its name (Kubernetes documentation, "Field Selectors").
+use Rattle.std.specs.Prelude.{◌≡◌, ℕ, Bool, if◌then◌else◌, List, [], ◌∷◌, drop, length, Option, Some, None, option_map, codes}
+use Rattle.std.specs.List.{list_any}
+use Rattle.std.specs.Str.{bytes_eq}
+use Rattle.names.specs.Names.{is_dns_subdomain}
+use Rattle.selector.specs.Grammar.{Sign, equal, different, begins_with, sign_at}
+use Rattle.selector.specs.Labels.{Labels}
+use Rattle.selector.specs.Requirement.{Condition, equals, differs, Requirement, selects}
+
+-- no label has such a key
+abbrev pub name_key : List ℕ
+name_key = codes ".metadata.name"
+
+-- what selectors see of an object: its labels, and its name under a key that no label has
+abbrev pub attributes : Option (List ℕ) → Labels → Labels
+attributes None labels = labels
+attributes (Some name) labels = (name_key, name) ∷ labels
+
+-- one of the requirements is on the name
+abbrev pub asks_name : List Requirement → Bool
+asks_name requirements = list_any (λ r. bytes_eq r.key name_key) requirements
+
+-- whatever the name is, the labels alone decide
+abbrev pub LabelsDecide : List Requirement → Type 0
+LabelsDecide requirements = (name : Option (List ℕ)) (labels : Labels) → selects requirements (attributes name labels) ≡ selects requirements labels
+
+-- ---- metadata.name=NAME, metadata.name==NAME, metadata.name!=NAME
+
+abbrev pub name_path : List ℕ
+name_path = codes "metadata.name"
+
+-- a name that an object can have
+abbrev pub name_of : List ℕ → Option (List ℕ)
+name_of text = if is_dns_subdomain text then Some text else None
+
+abbrev pub name_asked : Option (Sign × List ℕ) → Option Condition
+name_asked None = None
+name_asked (Some (equal, text)) = option_map equals (name_of text)
+name_asked (Some (different, text)) = option_map differs (name_of text)
+
+abbrev pub about_name : Condition → Requirement
+about_name condition = record { key = name_key; condition = condition }
+
+abbrev pub field_of : List ℕ → Option Requirement
+field_of text = if begins_with name_path text then option_map about_name (name_asked (sign_at (drop (length name_path) text))) else None
+
+-- the empty text asks nothing, any other has one part
+abbrev pub fields_of : List ℕ → Option (List Requirement)
+fields_of [] = Some []
+fields_of (b ∷ bs) = option_map (λ r. r ∷ []) (field_of (b ∷ bs))
