@@ -1,6 +1,6 @@
 -- Dry runs of types that clients discover: writes that are answered, and change nothing (Kubernetes docs, "Kubernetes API Concepts",
 -- "Dry-run").
-use Rattle.std.specs.Prelude.{ℕ, Bool, true, false, ◌&&◌, ◌||◌, if◌then◌else◌, List, Option, Some, None}
+use Rattle.std.specs.Prelude.{ℕ, Bool, false, ◌&&◌, ◌||◌, if◌then◌else◌, List, Option, Some, None}
 use Rattle.std.specs.FinMap as fin
 use Rattle.serde_json.specs.Data.{Data}
 use Rattle.api_types.specs.TypesFile.{ServedShape}
