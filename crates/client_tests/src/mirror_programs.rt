@@ -1,7 +1,7 @@
 //! The program `ssa-mirror` without its sockets: its arguments, what it prints of replies that are written by hand, where
 //! streams fail, and the exit status of each fault. The connections are those of `mirrors`.
 
-use crate::mirrors::server_of;
+use crate::mirrors::{Server, server_of};
 use api_types::Types;
 use mirror_program::{MirrorOptions, ProgramFault, options, print_changes};
 use programs::Resource;
@@ -111,6 +111,17 @@ fn options_of<'a>(words: &'a str) -> Result<MirrorOptions<'a>, Fail> {
     })
 }
 
+/// How printing ends.
+fn print(
+    alloc: Global,
+    options: &MirrorOptions<'_>,
+    server: &mut Server,
+    output: &mut Output,
+) -> Result<String, Fail> {
+    let types = Types::read(alloc, &Value::from_str(alloc, WIDGETS)?)?;
+    ended(alloc, print_changes(alloc, &types, options, server, output))
+}
+
 /// What is printed with so many reads and so many writes, and how it ends.
 fn printed(
     alloc: Global,
@@ -120,13 +131,11 @@ fn printed(
 ) -> Result<(String, String), Fail> {
     let mut server = server_of(alloc, REPLIES)?;
     server.reads = reads;
-    let types = Types::read(alloc, &Value::from_str(alloc, WIDGETS)?)?;
     let mut output = Output {
         taken: Vec::new(alloc),
         writes,
     };
-    let done = print_changes(alloc, &types, options, &mut server, &mut output);
-    let end = ended(alloc, done)?;
+    let end = print(alloc, options, &mut server, &mut output)?;
     Ok((String::from_utf8(output.taken).map_err(|_| "no text")?, end))
 }
 

@@ -4,7 +4,7 @@
 //! `mirror TURNS REPLIES|REPLIES`: how so many turns of a mirror end, what is printed of them, how often the dialer was told of
 //! trouble, and of which last. `turns TURNS REPLIES|REPLIES`: the relist reason that a caller sees who takes turn after turn.
 
-use crate::playing::{Namespace, expect_rows};
+use crate::playing::{Namespace, play_each};
 use crate::replies::replies;
 use mirroring::{Dial, MirrorFault, mirror, turn};
 use reflector::{Informer, RelistReason};
@@ -153,36 +153,27 @@ fn push_turn(
     }
 }
 
-/// The first list's revision once, before all notices, whatever is cut.
-#[test]
-fn mirrors_print_what_changes(rt: HostRuntime) -> Result<(), Fail> {
-    let rows = r#"mirrors_print_what_changes
+const EXAMPLES: &str =
+    r#"mirrors_print_what_changes: the first list's revision once, before all notices, whatever is cut
 mirror 0 page 6 6.default.w2 w1@2 w2@3|page 6 - w3@4|watch;line MODIFIED w1@7,red;half ADDED w4@8|watch;line ADDED w4@8;line DELETED w2@9|status 410 Gone|page 12 - w4@8 w5@12 => ("done", Ok(""), 0, None)
 mirror 1 page 6 6.default.w2 w1@2 w2@3|page 6 - w3@4|watch;line MODIFIED w1@7,red;half ADDED w4@8|watch;line ADDED w4@8;line DELETED w2@9|status 410 Gone|page 12 - w4@8 w5@12 => ("done", Ok(""), 0, None)
 mirror 4 page 6 6.default.w2 w1@2 w2@3|page 6 - w3@4|watch;line MODIFIED w1@7,red;half ADDED w4@8|watch;line ADDED w4@8;line DELETED w2@9|status 410 Gone|page 12 - w4@8 w5@12 => ("done", Ok("synced 6\nadded default/w1 2\nadded default/w2 3\nadded default/w3 4\nupdated default/w1 7\nadded default/w4 8\ndeleted default/w2 3\n"), 0, None)
 mirror 6 page 6 6.default.w2 w1@2 w2@3|page 6 - w3@4|watch;line MODIFIED w1@7,red;half ADDED w4@8|watch;line ADDED w4@8;line DELETED w2@9|status 410 Gone|page 12 - w4@8 w5@12 => ("done", Ok("synced 6\nadded default/w1 2\nadded default/w2 3\nadded default/w3 4\nupdated default/w1 7\nadded default/w4 8\ndeleted default/w2 3\ndeleted default/w1 7\ndeleted default/w3 4\nadded default/w5 12\n"), 1, Some(Status(410)))
-mirror 7 page 6 6.default.w2 w1@2 w2@3|page 6 - w3@4|watch;line MODIFIED w1@7,red;half ADDED w4@8|watch;line ADDED w4@8;line DELETED w2@9|status 410 Gone|page 12 - w4@8 w5@12 => ("no connection", Ok("synced 6\nadded default/w1 2\nadded default/w2 3\nadded default/w3 4\nupdated default/w1 7\nadded default/w4 8\ndeleted default/w2 3\ndeleted default/w1 7\ndeleted default/w3 4\nadded default/w5 12\n"), 1, Some(Status(410)))"#;
-    expect_rows(rt.alloc(), "", rows)
-}
+mirror 7 page 6 6.default.w2 w1@2 w2@3|page 6 - w3@4|watch;line MODIFIED w1@7,red;half ADDED w4@8|watch;line ADDED w4@8;line DELETED w2@9|status 410 Gone|page 12 - w4@8 w5@12 => ("no connection", Ok("synced 6\nadded default/w1 2\nadded default/w2 3\nadded default/w3 4\nupdated default/w1 7\nadded default/w4 8\ndeleted default/w2 3\ndeleted default/w1 7\ndeleted default/w3 4\nadded default/w5 12\n"), 1, Some(Status(410)))
 
-/// A dialer is told of each reply that was given up, and of no cut; and who takes turn after turn sees the same.
-#[test]
-fn dialers_learn_relist_reasons(rt: HostRuntime) -> Result<(), Fail> {
-    let rows = r#"dialers_learn_relist_reasons
+dialers_learn_relist_reasons: a dialer is told of each reply that was given up, and of no cut; and who takes turn after turn sees the same
 mirror 0 status 400 Bad Request|page 6 - w1@2|watch;half MODIFIED w1@7|status 410 Gone|page 12 - w1@8|watch;end => ("done", Ok(""), 0, None)
 mirror 1 status 400 Bad Request|page 6 - w1@2|watch;half MODIFIED w1@7|status 410 Gone|page 12 - w1@8|watch;end => ("done", Ok(""), 1, Some(Status(400)))
 mirror 3 status 400 Bad Request|page 6 - w1@2|watch;half MODIFIED w1@7|status 410 Gone|page 12 - w1@8|watch;end => ("done", Ok("synced 6\nadded default/w1 2\n"), 1, Some(Status(400)))
 mirror 4 status 400 Bad Request|page 6 - w1@2|watch;half MODIFIED w1@7|status 410 Gone|page 12 - w1@8|watch;end => ("done", Ok("synced 6\nadded default/w1 2\n"), 2, Some(Status(410)))
 mirror 6 status 400 Bad Request|page 6 - w1@2|watch;half MODIFIED w1@7|status 410 Gone|page 12 - w1@8|watch;end => ("done", Ok("synced 6\nadded default/w1 2\nupdated default/w1 8\n"), 2, Some(Status(410)))
-turns 6 status 400 Bad Request|page 6 - w1@2|watch;half MODIFIED w1@7|status 410 Gone|page 12 - w1@8|watch;end => status 400;status 410;"#;
-    expect_rows(rt.alloc(), "", rows)
-}
+turns 6 status 400 Bad Request|page 6 - w1@2|watch;half MODIFIED w1@7|status 410 Gone|page 12 - w1@8|watch;end => status 400;status 410;
 
-/// A connection that can't be dialled ends the mirror, the first one too.
-#[test]
-fn undialled_connections_end_it(rt: HostRuntime) -> Result<(), Fail> {
-    let rows = r#"undialled_connections_end_it
+undialled_connections_end_it: a connection that can't be dialled ends the mirror, the first one too
 mirror 1 bytes no head => ("done", Ok(""), 0, None)
 mirror 2 bytes no head => ("no connection", Ok(""), 0, None)"#;
-    expect_rows(rt.alloc(), "", rows)
+
+#[test]
+fn examples(rt: HostRuntime) -> Result<(), Fail> {
+    play_each(rt.alloc(), EXAMPLES)
 }

@@ -77,6 +77,14 @@ pub fn expect_rows(alloc: Global, selector: &str, rows: &str) -> Result<(), Fail
     played
 }
 
+/// Plays examples with blank lines between them, each on such an informer of its own.
+pub fn play_each(alloc: Global, examples: &str) -> Result<(), Fail> {
+    for example in examples.split("\n\n") {
+        expect_rows(alloc, "", example)?;
+    }
+    Ok(())
+}
+
 impl Answers for Play {
     /// | question | answer |
     /// |---|---|
@@ -220,22 +228,33 @@ impl Play {
         Ok(format!(in alloc; "{relist_reason:?} {text}")?)
     }
 
+    /// After these events, the bytes in front of a place, and those behind it or a cut.
+    fn cut_at(
+        &mut self,
+        alloc: Global,
+        word: &str,
+        events: &str,
+        text: &str,
+        n: usize,
+    ) -> Result<String, Fail> {
+        self.begin(alloc, events)?;
+        let (prefix, back) = text.as_bytes().split_at(n.min(text.len()));
+        self.informer.feed(prefix)?;
+        if word == "cuts" {
+            self.informer.feed(back)?;
+            return self.gives_up_and_asks(alloc);
+        }
+        self.informer.closed();
+        self.stands_and_asks(alloc)
+    }
+
     fn cut(&mut self, alloc: Global, word: &str, words: &str) -> Result<String, Fail> {
         let (events, words) = words.split_once(" <- ").ok_or("no replies")?;
         let text = replies(alloc, words)?;
         let mut shown = String::new(alloc);
         let mut last = String::new(alloc);
-        for n in 0..text.len() + 1 {
-            self.begin(alloc, events)?;
-            let (prefix, back) = text.as_bytes().split_at(n);
-            self.informer.feed(prefix)?;
-            let next = if word == "cuts" {
-                self.informer.feed(back)?;
-                self.gives_up_and_asks(alloc)?
-            } else {
-                self.informer.closed();
-                self.stands_and_asks(alloc)?
-            };
+        for n in 0..=text.len() {
+            let next = self.cut_at(alloc, word, events, text.as_str(), n)?;
             if next.as_str() != last.as_str() {
                 shown.push_str(format!(in alloc; "{n}: {next} | ")?.as_str())?;
             }
@@ -244,14 +263,19 @@ impl Play {
         Ok(shown)
     }
 
-    fn marked(&mut self, alloc: Global, words: &str) -> Result<String, Fail> {
-        let (words, events) = words.split_once(" <- ").ok_or("no replies")?;
-        let (standings, words) = words.split_once(": ").ok_or("no standings")?;
+    /// Feeds these replies between marks. Whether memory was refused.
+    fn is_refused(&mut self, alloc: Global, words: &str) -> Result<bool, Fail> {
         let text = replies(alloc, words)?;
         mark(alloc)?;
         let is_refused = self.informer.feed(text.as_bytes()).is_err();
         mark(alloc)?;
-        if is_refused {
+        Ok(is_refused)
+    }
+
+    fn marked(&mut self, alloc: Global, words: &str) -> Result<String, Fail> {
+        let (words, events) = words.split_once(" <- ").ok_or("no replies")?;
+        let (standings, words) = words.split_once(": ").ok_or("no standings")?;
+        if self.is_refused(alloc, words)? {
             self.given_up(alloc, standings)?;
             self.events(alloc, events)?;
         }
@@ -267,6 +291,10 @@ impl Play {
         if !standings.split('|').any(|it| it == standing.as_str()) {
             return Err(Fail::new(standing));
         }
+        self.expect_first_page(alloc)
+    }
+
+    fn expect_first_page(&mut self, alloc: Global) -> Result<(), Fail> {
         expect_text(
             in_words(alloc, self.informer.relist_reason())?,
             "Some(OutOfMemory)",

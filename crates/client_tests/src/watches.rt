@@ -1,84 +1,65 @@
 //! Watches, and replies that don't fit them. Lists stand in `pages`.
 
-use crate::playing::expect_rows;
+use crate::playing::{expect_rows, play_each};
 use std::test::Fail;
 
-#[test]
-fn cut_stream_resumes(rt: HostRuntime) -> Result<(), Fail> {
-    let rows = "cut_stream_resumes\n\
-        ask => /widgets?limit=2\n\
-        page 2 - w1@2 => (Some(2), 1, 1) +w1\n\
-        ask => /widgets?watch=true&resourceVersion=2&allowWatchBookmarks=true\n\
-        ask => none\n\
-        watch => (Some(2), 1, 1)\n\
-        line MODIFIED w1@3 => (Some(3), 1, 1) *w1\n\
-        half MODIFIED w1@4 => (Some(3), 1, 1)\n\
-        cut => (Some(3), 1, 1)\n\
-        ask => /widgets?watch=true&resourceVersion=3&allowWatchBookmarks=true\n\
-        watch => (Some(3), 1, 1)\n\
-        line MODIFIED w1@4 => (Some(4), 1, 1) *w1\n\
-        half BOOKMARK 99 => (Some(4), 1, 1)\n\
-        cut => (Some(4), 1, 1)\n\
-        ask => /widgets?watch=true&resourceVersion=4&allowWatchBookmarks=true\n\
-        watch => (Some(4), 1, 1)\n\
-        line BOOKMARK 99 => (Some(99), 1, 1)\n\
-        line BOOKMARK 99 => (Some(99), 1, 1)\n\
-        end => (Some(99), 1, 1)\n\
-        ask => /widgets?watch=true&resourceVersion=99&allowWatchBookmarks=true\n";
-    expect_rows(rt.alloc(), "", rows)
-}
+const EXAMPLES: &str = r#"cut_stream_resumes
+ask => /widgets?limit=2
+page 2 - w1@2 => (Some(2), 1, 1) +w1
+ask => /widgets?watch=true&resourceVersion=2&allowWatchBookmarks=true
+ask => none
+watch => (Some(2), 1, 1)
+line MODIFIED w1@3 => (Some(3), 1, 1) *w1
+half MODIFIED w1@4 => (Some(3), 1, 1)
+cut => (Some(3), 1, 1)
+ask => /widgets?watch=true&resourceVersion=3&allowWatchBookmarks=true
+watch => (Some(3), 1, 1)
+line MODIFIED w1@4 => (Some(4), 1, 1) *w1
+half BOOKMARK 99 => (Some(4), 1, 1)
+cut => (Some(4), 1, 1)
+ask => /widgets?watch=true&resourceVersion=4&allowWatchBookmarks=true
+watch => (Some(4), 1, 1)
+line BOOKMARK 99 => (Some(99), 1, 1)
+line BOOKMARK 99 => (Some(99), 1, 1)
+end => (Some(99), 1, 1)
+ask => /widgets?watch=true&resourceVersion=99&allowWatchBookmarks=true
 
-/// After what doesn't fit a watch the cache stays, and a first page is asked.
-#[test]
-fn unfit_watches(rt: HostRuntime) -> Result<(), Fail> {
-    let rows = "unfit_watches\n\
-        after ask;page 2 - w1@2;ask <- status 410 Gone => (Some(2), 1, 1) /widgets?limit=2\n\
-        after ask;page 2 - w1@2;ask <- page 6 - w1@2 => (Some(2), 1, 1) /widgets?limit=2\n\
-        after ask;page 2 - w1@2;ask;watch <- line MODIFIED w1@2 => (Some(2), 1, 1) /widgets?limit=2\n\
-        after ask;page 2 - w1@2;ask;watch <- line MODIFIED w1@1 => (Some(2), 1, 1) /widgets?limit=2\n\
-        after ask;page 2 - w1@2;ask;watch <- line DELETED w1@2 => (Some(2), 1, 1) /widgets?limit=2\n\
-        after ask;page 2 - w1@2;ask;watch <- line BOOKMARK 1 => (Some(2), 1, 1) /widgets?limit=2\n\
-        after ask;page 2 - w1@2;ask;watch <- line ERROR w1@3 => (Some(2), 1, 1) /widgets?limit=2\n\
-        after ask;page 2 - w1@2;ask;watch <- line PATCHED w1@3 => (Some(2), 1, 1) /widgets?limit=2\n\
-        after ask;page 2 - w1@2;ask;watch <- line ADDED w2@03 => (Some(2), 1, 1) /widgets?limit=2\n\
-        after ask;page 2 - w1@2;ask;watch <- text {} => (Some(2), 1, 1) /widgets?limit=2\n\
-        after ask;page 2 - w1@2;ask;watch <- text no JSON => (Some(2), 1, 1) /widgets?limit=2\n\
-        after ask;page 2 - w1@2;ask;watch <- bytes x => (Some(2), 1, 1) /widgets?limit=2\n\
-        after ask;page 2 - w1@2;ask;watch <- line ADDED w2@3;bytes x => (Some(3), 2, 2) +w2 /widgets?limit=2\n\
-        after ask;page 2 - w1@2;ask;watch <- line ADDED w2@3;line ADDED w2@3 => (Some(3), 2, 2) +w2 /widgets?limit=2\n\
-        after ask;page 2 - w1@2;ask;watch <- line ADDED w2@3;end => (Some(3), 2, 2) +w2 /widgets?watch=true&resourceVersion=3&allowWatchBookmarks=true\n";
-    expect_rows(rt.alloc(), "", rows)
-}
+unfit_watches: after what doesn't fit a watch the cache stays, and a first page is asked
+after ask;page 2 - w1@2;ask <- status 410 Gone => (Some(2), 1, 1) /widgets?limit=2
+after ask;page 2 - w1@2;ask <- page 6 - w1@2 => (Some(2), 1, 1) /widgets?limit=2
+after ask;page 2 - w1@2;ask;watch <- line MODIFIED w1@2 => (Some(2), 1, 1) /widgets?limit=2
+after ask;page 2 - w1@2;ask;watch <- line MODIFIED w1@1 => (Some(2), 1, 1) /widgets?limit=2
+after ask;page 2 - w1@2;ask;watch <- line DELETED w1@2 => (Some(2), 1, 1) /widgets?limit=2
+after ask;page 2 - w1@2;ask;watch <- line BOOKMARK 1 => (Some(2), 1, 1) /widgets?limit=2
+after ask;page 2 - w1@2;ask;watch <- line ERROR w1@3 => (Some(2), 1, 1) /widgets?limit=2
+after ask;page 2 - w1@2;ask;watch <- line PATCHED w1@3 => (Some(2), 1, 1) /widgets?limit=2
+after ask;page 2 - w1@2;ask;watch <- line ADDED w2@03 => (Some(2), 1, 1) /widgets?limit=2
+after ask;page 2 - w1@2;ask;watch <- text {} => (Some(2), 1, 1) /widgets?limit=2
+after ask;page 2 - w1@2;ask;watch <- text no JSON => (Some(2), 1, 1) /widgets?limit=2
+after ask;page 2 - w1@2;ask;watch <- bytes x => (Some(2), 1, 1) /widgets?limit=2
+after ask;page 2 - w1@2;ask;watch <- line ADDED w2@3;bytes x => (Some(3), 2, 2) +w2 /widgets?limit=2
+after ask;page 2 - w1@2;ask;watch <- line ADDED w2@3;line ADDED w2@3 => (Some(3), 2, 2) +w2 /widgets?limit=2
+after ask;page 2 - w1@2;ask;watch <- line ADDED w2@3;end => (Some(3), 2, 2) +w2 /widgets?watch=true&resourceVersion=3&allowWatchBookmarks=true
 
-/// What is fed, or cut, while nothing is asked changes nothing; nor does what comes after a reply.
-#[test]
-fn nothing_asked_nothing_changed(rt: HostRuntime) -> Result<(), Fail> {
-    let rows = "nothing_asked_nothing_changed\n\
-        page 6 - w1@2 => (None, 0, 0)\n\
-        cut => (None, 0, 0)\n\
-        ask => /widgets?limit=2\n\
-        page 6 - w1@2 => (Some(6), 1, 1) +w1\n\
-        page 7 - w2@7 => (Some(6), 1, 1)\n\
-        cut => (Some(6), 1, 1)\n\
-        ask => /widgets?watch=true&resourceVersion=6&allowWatchBookmarks=true\n\
-        watch => (Some(6), 1, 1)\n\
-        end => (Some(6), 1, 1)\n\
-        line ADDED w2@7 => (Some(6), 1, 1)\n\
-        ask => /widgets?watch=true&resourceVersion=6&allowWatchBookmarks=true\n";
-    expect_rows(rt.alloc(), "", rows)
-}
+nothing_asked_nothing_changed: what is fed, or cut, while nothing is asked changes nothing; nor does what comes after a reply
+page 6 - w1@2 => (None, 0, 0)
+cut => (None, 0, 0)
+ask => /widgets?limit=2
+page 6 - w1@2 => (Some(6), 1, 1) +w1
+page 7 - w2@7 => (Some(6), 1, 1)
+cut => (Some(6), 1, 1)
+ask => /widgets?watch=true&resourceVersion=6&allowWatchBookmarks=true
+watch => (Some(6), 1, 1)
+end => (Some(6), 1, 1)
+line ADDED w2@7 => (Some(6), 1, 1)
+ask => /widgets?watch=true&resourceVersion=6&allowWatchBookmarks=true
 
-/// A watch that is cut anywhere goes on from the revision of its last line whose line feed came.
+watches_cut_at_every_byte: a watch that is cut anywhere goes on from the revision of its last line whose line feed came
+fronts ask;page 2 - w1@2;ask <- watch;line MODIFIED w1@3;line ADDED w2@4;line DELETED w1@5;line BOOKMARK 9;end => 0: (Some(2), 1, 1) /widgets?watch=true&resourceVersion=2&allowWatchBookmarks=true | 249: (Some(3), 1, 1) *w1 /widgets?watch=true&resourceVersion=3&allowWatchBookmarks=true | 399: (Some(4), 2, 2) *w1 +w2 /widgets?watch=true&resourceVersion=4&allowWatchBookmarks=true | 551: (Some(5), 1, 1) *w1 +w2 -w1 /widgets?watch=true&resourceVersion=5&allowWatchBookmarks=true | 670: (Some(9), 1, 1) *w1 +w2 -w1 /widgets?watch=true&resourceVersion=9&allowWatchBookmarks=true | "#;
+
 #[test]
-fn watches_cut_at_every_byte(rt: HostRuntime) -> Result<(), Fail> {
-    let rows = "watches_cut_at_every_byte\n\
-        fronts ask;page 2 - w1@2;ask <- watch;line MODIFIED w1@3;line ADDED w2@4;line DELETED w1@5;line BOOKMARK 9;end => \
-        0: (Some(2), 1, 1) /widgets?watch=true&resourceVersion=2&allowWatchBookmarks=true | \
-        249: (Some(3), 1, 1) *w1 /widgets?watch=true&resourceVersion=3&allowWatchBookmarks=true | \
-        399: (Some(4), 2, 2) *w1 +w2 /widgets?watch=true&resourceVersion=4&allowWatchBookmarks=true | \
-        551: (Some(5), 1, 1) *w1 +w2 -w1 /widgets?watch=true&resourceVersion=5&allowWatchBookmarks=true | \
-        670: (Some(9), 1, 1) *w1 +w2 -w1 /widgets?watch=true&resourceVersion=9&allowWatchBookmarks=true | \n";
-    expect_rows(rt.alloc(), "", rows)
+fn examples(rt: HostRuntime) -> Result<(), Fail> {
+    play_each(rt.alloc(), EXAMPLES)
 }
 
 /// Out of memory, what stands is as after the last whole line, and a list tells what the watch would have told.

@@ -22,7 +22,7 @@ use objects::paths_in;
 use ownership::{Identity, ObjectFault, Owned};
 use schema::Schema;
 use serde_json::Value;
-use std::alloc::Global;
+use std::alloc::{AllocError, Global};
 use std::test::Fail;
 use test_rows::{Answers, first_word, in_words, play_all};
 use typed::{ReadFault, Tree};
@@ -91,12 +91,17 @@ fn fields_v1(alloc: Global, schema: &Schema, call: &str, text: &str) -> Result<S
     }
 }
 
-/// What is written of a set, the same as a value and directly as text.
-pub fn written(alloc: Global, schema: &Schema, set: &FieldSet) -> Result<String, Fail> {
+/// What is written of a set directly as text.
+fn written_directly(alloc: Global, schema: &Schema, set: &FieldSet) -> Result<String, AllocError> {
     let mut out = TextWriter::with_capacity(alloc, 0)?;
     set.write_fields_v1(&mut out, alloc, schema)?;
-    let direct = out.into_text();
+    Ok(out.into_text())
+}
+
+/// What is written of a set, the same as a value and directly as text.
+pub fn written(alloc: Global, schema: &Schema, set: &FieldSet) -> Result<String, Fail> {
     let text = set.to_fields_v1(alloc, schema)?.to_string(alloc)?;
+    let direct = written_directly(alloc, schema, set)?;
     if text.as_str() != direct.as_str() {
         return Err("another text is written".into());
     }
@@ -112,13 +117,22 @@ pub fn w1() -> Identity<'static> {
     }
 }
 
+/// Whether an object is printed as this text.
+fn printed_again(
+    alloc: Global,
+    schema: &Schema,
+    owned: &Owned,
+    version: u64,
+    text: &str,
+) -> Result<String, Fail> {
+    let printed = owned.to_object(alloc, schema, w1(), version)?;
+    let is_same = printed.as_str() == text;
+    Ok(String::from_str(alloc, if is_same { "same" } else { "another" })?)
+}
+
 fn again(alloc: Global, schema: &Schema, text: &str) -> Result<String, Fail> {
     match Owned::from_object(alloc, schema, w1(), text) {
-        Ok((owned, version)) => {
-            let printed = owned.to_object(alloc, schema, w1(), version)?;
-            let is_same = printed.as_str() == text;
-            Ok(String::from_str(alloc, if is_same { "same" } else { "another" })?)
-        }
+        Ok((owned, version)) => printed_again(alloc, schema, &owned, version, text),
         Err(ObjectFault::NotCanonical) => Ok(String::from_str(alloc, "refused")?),
         Err(ObjectFault::Memory) => Err("no memory".into()),
     }

@@ -5,10 +5,9 @@
 //! | `METHOD PATH` | the document's text, `other method`, or `none` |
 
 use crate::given::types_of;
-use api_types::{Served, Types};
+use api_types::Types;
 use discovery::{Discovered, discover};
-use schema::{ListKind, Schema};
-use std::alloc::{AllocError, Global};
+use std::alloc::Global;
 use std::test::Fail;
 use test_rows::{Answers, first_word, play_all};
 
@@ -31,82 +30,15 @@ const TYPES: &str = r#"{"types":[
  {"group":"demo.example","version":"v1","kind":"Widget","plural":"more",
   "schema":{"type":"object","properties":{}}}]}"#;
 
-fn kind_copy(alloc: Global, kind: &ListKind) -> Result<ListKind, AllocError> {
-    match kind {
-        ListKind::Atomic => Ok(ListKind::Atomic),
-        ListKind::Set => Ok(ListKind::Set),
-        ListKind::Keyed(names) => {
-            let mut copies = Vec::new(alloc);
-            for name in names {
-                copies.push(name.clone()?)?;
-            }
-            Ok(ListKind::Keyed(copies))
-        }
-    }
-}
-
-#[cycle(copy)]
-fn fields_copy(
-    alloc: Global,
-    fields: &[(String, Schema)],
-) -> Result<Vec<(String, Schema)>, AllocError> {
-    let mut copies = Vec::new(alloc);
-    for (name, inner) in fields {
-        copies.push((name.clone()?, schema_copy(alloc, inner)?))?;
-    }
-    Ok(copies)
-}
-
-#[cycle(copy)]
-fn schema_copy(alloc: Global, schema: &Schema) -> Result<Schema, AllocError> {
-    match schema {
-        Schema::Text => Ok(Schema::Text),
-        Schema::Whole => Ok(Schema::Whole),
-        Schema::Truth => Ok(Schema::Truth),
-        Schema::Struct(fields, is_atomic) => {
-            Ok(Schema::Struct(fields_copy(alloc, fields)?, *is_atomic))
-        }
-        Schema::MapOf(inner, is_atomic) => {
-            let copy = schema_copy(alloc, inner)?;
-            Ok(Schema::MapOf(Box::new(alloc, copy)?, *is_atomic))
-        }
-        Schema::List(inner, kind) => {
-            let copy = schema_copy(alloc, inner)?;
-            Ok(Schema::List(Box::new(alloc, copy)?, kind_copy(alloc, kind)?))
-        }
-    }
-}
-
-fn copy_of(alloc: Global, one: &Served) -> Result<Served, AllocError> {
-    Ok(Served {
-        group: one.group.clone()?,
-        version: one.version.clone()?,
-        kind: one.kind.clone()?,
-        plural: one.plural.clone()?,
-        schema: schema_copy(alloc, &one.schema)?,
-        is_discovered: one.is_discovered,
-    })
-}
-
-fn copies_of(alloc: Global, types: &Types) -> Result<Vec<Served>, AllocError> {
-    let mut copies = Vec::new(alloc);
-    for number in 0..4 {
-        if let Some(one) = types.get(number) {
-            copies.push(copy_of(alloc, one)?)?;
-        }
-    }
-    Ok(copies)
-}
-
 #[derive(Drop)]
 struct Documents {
-    types: Vec<Served>,
+    types: Types,
 }
 
 impl Answers for Documents {
     fn answer(&mut self, alloc: Global, question: &str) -> Result<String, Fail> {
         let (method, path) = first_word(question);
-        match discover(alloc, &self.types, method, path)? {
+        match discover(alloc, self.types.all(), method, path)? {
             None => Ok(String::from_str(alloc, "none")?),
             Some(Discovered::OtherMethod) => Ok(String::from_str(alloc, "other method")?),
             Some(Discovered::Shown(text)) => Ok(text),
@@ -148,7 +80,8 @@ POST /apis/demo.example/v3 => none"##;
 
 #[test]
 fn examples(rt: HostRuntime) -> Result<(), Fail> {
-    let alloc = rt.alloc();
-    let types = copies_of(alloc, &types_of(alloc, TYPES)?)?;
-    play_all(alloc, &mut Documents { types }, EXAMPLES)
+    let mut documents = Documents {
+        types: types_of(rt.alloc(), TYPES)?,
+    };
+    play_all(rt.alloc(), &mut documents, EXAMPLES)
 }

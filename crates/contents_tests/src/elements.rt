@@ -79,14 +79,14 @@ fn push_elem(alloc: Global, path: &mut Path, elem: &Elem) -> Result<(), Fail> {
     push(alloc, path, elem.text(alloc)?.as_str())
 }
 
+fn push_spec(alloc: Global, path: &mut Path) -> Result<(), Fail> {
+    push_elem(alloc, path, &Elem::Field(String::from_str(alloc, "spec")?))
+}
+
 /// A copy of the path of `spec`, or of a number below it.
 fn spec_path(alloc: Global, word: &str) -> Result<Path, Fail> {
     let mut path = Path::new(alloc);
-    push_elem(
-        alloc,
-        &mut path,
-        &Elem::Field(String::from_str(alloc, "spec")?),
-    )?;
+    push_spec(alloc, &mut path)?;
     if let Ok(number) = word.parse::<i64>() {
         push_elem(alloc, &mut path, &Elem::Value(Scalar::Int(number)))?;
     }

@@ -19,6 +19,7 @@ use ownership::{
 };
 use schema::Schema;
 use std::alloc::{AllocError, Global};
+use std::mem;
 use std::test::Fail;
 use test_rows::{Answers, first_word, in_words, mark, play};
 use typed::Tree;
@@ -43,14 +44,19 @@ impl Answers for Existing {
     }
 }
 
+/// Plays an example from no object of the first type. What stands then is not dropped.
+fn play_one(alloc: Global, types: Types, example: &str) -> Result<(), Fail> {
+    let owned = Owned::empty(alloc);
+    let mut live = Existing { types, owned };
+    let played = play(alloc, &mut live, example);
+    mem::forget(live);
+    played
+}
+
 /// Plays examples with blank lines between them, each from no object of the first type.
 fn play_each(alloc: Global, types: &str, examples: &str) -> Result<(), Fail> {
     for example in examples.split("\n\n") {
-        let mut live = Existing {
-            types: types_of(alloc, types)?,
-            owned: Owned::empty(alloc),
-        };
-        play(alloc, &mut live, example)?;
+        play_one(alloc, types_of(alloc, types)?, example)?;
     }
     Ok(())
 }
@@ -87,24 +93,40 @@ fn push_manager(text: &mut String, manager: &Manager) -> Result<(), AllocError> 
     push_subresource(text, manager.subresource.text())
 }
 
+/// Puts each manager with its paths.
+fn push_managers(alloc: Global, text: &mut String, owned: &Owned) -> Result<(), AllocError> {
+    for entry in owned.managers.entries() {
+        push_manager(text, &entry.manager)?;
+        push_paths(alloc, text, &entry.paths)?;
+    }
+    Ok(())
+}
+
 /// The content, and each manager with its paths.
 fn shown(alloc: Global, schema: &Schema, owned: &Owned) -> Result<String, Fail> {
     let mut text = printed(alloc, schema, &owned.tree)?;
-    for entry in owned.managers.entries() {
-        push_manager(&mut text, &entry.manager)?;
-        push_paths(alloc, &mut text, &entry.paths)?;
-    }
+    push_managers(alloc, &mut text, owned)?;
     Ok(text)
+}
+
+fn push_conflict(alloc: Global, text: &mut String, conflict: &Conflict) -> Result<(), AllocError> {
+    text.push_str(" ")?;
+    text.push_str(conflict.path.shown(alloc)?.as_str())?;
+    push_manager(text, &conflict.manager)
 }
 
 /// Each conflict's path and who owns it.
 fn listed(alloc: Global, conflicts: &[Conflict]) -> Result<String, Fail> {
     let mut text = String::from_str(alloc, "conflicts:")?;
     for conflict in conflicts {
-        text.push_str(" ")?;
-        text.push_str(conflict.path.shown(alloc)?.as_str())?;
-        push_manager(&mut text, &conflict.manager)?;
+        push_conflict(alloc, &mut text, conflict)?;
     }
+    Ok(text)
+}
+
+fn shown_as_before(alloc: Global, schema: &Schema, owned: &Owned) -> Result<String, Fail> {
+    let mut text = shown(alloc, schema, owned)?;
+    text.push_str(" as before")?;
     Ok(text)
 }
 
@@ -116,13 +138,8 @@ fn shown_beside(
     answer: &Result<Owned, ApplyFault>,
 ) -> Result<String, Fail> {
     match answer {
-        Ok(owned) => {
-            let mut text = shown(alloc, schema, owned)?;
-            if is_same(owned, live) {
-                text.push_str(" as before")?;
-            }
-            Ok(text)
-        }
+        Ok(owned) if is_same(owned, live) => shown_as_before(alloc, schema, owned),
+        Ok(owned) => shown(alloc, schema, owned),
         Err(ApplyFault::Conflicts(conflicts)) => listed(alloc, conflicts),
         Err(ApplyFault::Memory) => Err("no memory".into()),
     }
@@ -208,15 +225,20 @@ fn answer_or_again(
     }
 }
 
-/// What a write answers; out of memory, it leaves what stands as it was, and is answered when it is called again.
-fn answer_anew(alloc: Global, schema: &Schema, live: &Owned, line: &str) -> Result<String, Fail> {
-    let (name, words) = first_word(line);
-    let content = body(alloc, schema, words)?;
-    let before = shown(alloc, schema, live)?;
-    let answer = answer_or_again(alloc, live, name, content)?;
+/// The test fails unless what stands is as before.
+fn expect_kept(alloc: Global, schema: &Schema, live: &Owned, before: String) -> Result<(), Fail> {
     if shown(alloc, schema, live)?.as_str() != before.as_str() {
         return Err("what stood was changed".into());
     }
+    Ok(())
+}
+
+/// What a write answers; out of memory, it leaves what stands as it was, and is answered when it is called again.
+fn answer_anew(alloc: Global, schema: &Schema, live: &Owned, line: &str) -> Result<String, Fail> {
+    let (name, words) = first_word(line);
+    let before = shown(alloc, schema, live)?;
+    let answer = answer_or_again(alloc, live, name, body(alloc, schema, words)?)?;
+    expect_kept(alloc, schema, live, before)?;
     shown_beside(alloc, schema, live, &answer)
 }
 

@@ -142,41 +142,72 @@ fn of_two_maps(alloc: Global, call: &str, words: &str) -> Result<String, Fail> {
 }
 
 /// Whether a copy of what stands at the path is the value.
+fn is_same_at(map: &PathMap, path: &Path, value: &PathValue) -> Result<bool, Fail> {
+    let held = map.get(path).ok_or("nothing is held")?;
+    Ok(held.try_copy()?.same(value))
+}
+
+fn holds(alloc: Global, map: &PathMap, words: &str) -> Result<String, Fail> {
+    let (elements, value) = words.split_once('=').ok_or("no value")?;
+    let path = path(alloc, elements)?;
+    in_words(alloc, is_same_at(map, &path, &value_of(alloc, value)?)?)
+}
+
 fn is_held(alloc: Global, words: &str) -> Result<String, Fail> {
     let (value, values) = words.split_once(" in ").ok_or("no map")?;
-    let (elements, value) = value.split_once('=').ok_or("no value")?;
-    let map = map(alloc, values)?;
-    let held = map.get(&path(alloc, elements)?).ok_or("nothing is held")?;
-    in_words(alloc, held.try_copy()?.same(&value_of(alloc, value)?))
+    holds(alloc, &map(alloc, values)?, value)
 }
 
 fn element(alloc: Global, text: &str) -> Result<ElemText, Fail> {
     Ok(ElemText::read(alloc, text).ok().ok_or("no element")?)
 }
 
-fn children(alloc: Global, values: &str) -> Result<String, Fail> {
-    let mut map = PathMap::empty(alloc);
-    let mut shown = String::new(alloc);
-    for value in values.split(',') {
-        let (name, value) = value.split_once('=').ok_or("no value")?;
-        let leaf = PathMap::leaf(alloc, value_of(alloc, value)?);
-        let is_put = map.insert_child(element(alloc, name)?, leaf)?;
-        shown.push_str(if is_put { "put " } else { "taken " })?;
+/// Puts the value of `ELEMENT=VALUE` below the element, and answers whether it was put.
+fn put_child(alloc: Global, map: &mut PathMap, words: &str) -> Result<bool, Fail> {
+    let (name, value) = words.split_once('=').ok_or("no value")?;
+    let name = element(alloc, name)?;
+    let value = value_of(alloc, value)?;
+    Ok(map.insert_child(name, PathMap::leaf(alloc, value))?)
+}
+
+fn put_children(
+    alloc: Global,
+    text: &mut String,
+    map: &mut PathMap,
+    values: &str,
+) -> Result<(), Fail> {
+    for words in values.split(',') {
+        let is_put = put_child(alloc, map, words)?;
+        text.push_str(if is_put { "put " } else { "taken " })?;
     }
-    shown.push_str("children")?;
+    Ok(())
+}
+
+fn push_children(text: &mut String, map: &PathMap) -> Result<(), AllocError> {
+    text.push_str("children")?;
     for (name, _) in map.children() {
-        shown.push(' ')?;
-        shown.push_str(name.as_str())?;
+        text.push(' ')?;
+        text.push_str(name.as_str())?;
     }
+    Ok(())
+}
+
+fn children(alloc: Global, values: &str) -> Result<String, Fail> {
+    let mut shown = String::new(alloc);
+    let mut map = PathMap::empty(alloc);
+    put_children(alloc, &mut shown, &mut map, values)?;
+    push_children(&mut shown, &map)?;
     Ok(shown)
+}
+
+fn held_below(alloc: Global, map: &PathMap, name: &str) -> Result<String, Fail> {
+    let child = map.child(&element(alloc, name)?).ok_or("no child")?;
+    in_words(alloc, child.held().ok_or("nothing is held")?)
 }
 
 fn below(alloc: Global, words: &str) -> Result<String, Fail> {
     let (name, values) = words.split_once(" in ").ok_or("no map")?;
-    let map = map(alloc, values)?;
-    let child = map.child(&element(alloc, name)?).ok_or("no child")?;
-    let held = child.held().ok_or("nothing is held")?;
-    in_words(alloc, held)
+    held_below(alloc, &map(alloc, values)?, name)
 }
 
 fn simplest(alloc: Global) -> Result<String, Fail> {

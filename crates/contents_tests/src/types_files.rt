@@ -13,9 +13,10 @@
 
 use crate::contents::play_under;
 use crate::given::{WIDGET_TYPES, first_schema, types_of};
-use api_types::{Types, TypesFault, all_places, is_lawful};
+use api_types::{LocatedFault, Types, TypesFault, all_places, is_lawful};
+use schema::Schema;
 use serde_json::Value;
-use std::alloc::Global;
+use std::alloc::{AllocError, Global};
 use std::test::Fail;
 use test_rows::{Answers, first_word, in_words, play_all};
 
@@ -56,15 +57,18 @@ fn verdict(alloc: Global, text: &str) -> Result<String, Fail> {
     }
 }
 
-/// The faults of a types file with their places.
-fn fault_places(alloc: Global, text: &str) -> Result<String, Fail> {
-    let value = Value::from_str(alloc, text)?;
-    let all = all_places(alloc, &value)?;
+fn places_in_words(alloc: Global, all: &[LocatedFault]) -> Result<String, AllocError> {
     let mut shown = String::new(alloc);
-    for located in &all {
+    for located in all {
         shown = format!(in alloc; "{shown}{}{};", located.fault, located.place)?;
     }
     Ok(shown)
+}
+
+/// The faults of a types file with their places.
+fn fault_places(alloc: Global, text: &str) -> Result<String, Fail> {
+    let value = Value::from_str(alloc, text)?;
+    Ok(places_in_words(alloc, &all_places(alloc, &value)?)?)
 }
 
 const PREFIX: &str =
@@ -144,13 +148,14 @@ fn shown(alloc: Global, types: &Types, place: &str) -> Result<String, Fail> {
     Ok(format!(in alloc; "{schema:?}")?)
 }
 
+fn made_of(alloc: Global, schema: &Schema) -> Result<String, Fail> {
+    let is_lawful = is_lawful(schema);
+    Ok(format!(in alloc; "{schema:?} {is_lawful}")?)
+}
+
 fn made(alloc: Global, schema: &str) -> Result<String, Fail> {
-    let types = types_of(alloc, file_of(alloc, schema)?.as_str())?;
-    in_words_with_law(
-        alloc,
-        shown(alloc, &types, "0")?.as_str(),
-        is_lawful(first_schema(&types)?),
-    )
+    let file = file_of(alloc, schema)?;
+    made_of(alloc, first_schema(&types_of(alloc, file.as_str())?)?)
 }
 
 const EXAMPLES: &str = r#"refusals
