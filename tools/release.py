@@ -5,8 +5,8 @@
     tools/release.py --check    says where the release is not what its manifest says, and, where the sources and the kit are
                                 those of the manifest, which program that was built here is another one; the status is then 1
 
-A release has the programs of crates/*/out without their symbols, the pages, the examples, the packages of clients/ and the
-licence. The version is the constant VERSION of the crate `programs`. The same files give the same bytes.
+A release has the programs of crates/*/out without their symbols, the pages, the examples, the packages of clients/,
+tools/crd and the licence. The version is the constant VERSION of the crate `programs`. The same files give the same bytes.
 """
 from __future__ import annotations
 
@@ -33,6 +33,8 @@ PAGES = (
     "docs",
     "examples",
     "clients",
+    "tools/crd",
+    "tools/types_files",
 )
 FIRST = ("MANIFEST", "ssa-server")
 # What a system has to have: the C library and its loader.

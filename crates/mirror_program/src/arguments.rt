@@ -21,7 +21,7 @@ const ABOUT: &str =
     "Mirrors the objects of a type from a server on loopback and prints what changes";
 
 const NOTES: &str = "Example:
-  ssa-mirror --types crates/ssa_replay/data/types.json --port 8001 --type demo.example/v1/widgets
+  ssa-mirror --types examples/widgets.json --port 8001 --type demo.example/v1/widgets
 
 Exit status:
   0  the connections that --turns asks for were made

@@ -13,7 +13,7 @@ use std::alloc::Global;
 pub const TYPES: &str = "types";
 
 /// Its help.
-pub const TYPES_HELP: &str = "The types to serve, one JSON object {\"types\":[..]}";
+pub const TYPES_HELP: &str = "The types file, one JSON object {\"types\":[..]}";
 
 /// The option by which documents tell clients of the types.
 pub const DISCOVERY: &str = "discovery";
@@ -23,7 +23,7 @@ pub const DISCOVERY_HELP: &str =
     "Serve the documents of discovery of the types, at /version, /api, /apis and /openapi/v3";
 
 /// What `--version` prints after the name of each program.
-const VERSION: &str = "1.1.0";
+const VERSION: &str = "1.2.0";
 
 /// A program's command before its options: `about` says in a line what it does, and `notes` end its help.
 pub fn program<'a>(alloc: Global, name: &'a str, about: &'a str, notes: &'a str) -> Command<'a>

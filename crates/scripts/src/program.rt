@@ -19,7 +19,7 @@ const REPLAY: Player<'static> = Player {
     name: "ssa-replay",
     about: "Plays a script of events over an API server and a client in memory and prints what comes of it",
     notes: "Example:
-  ssa-replay --types crates/ssa_replay/data/types.json --script crates/ssa_replay/data/script.jsonl
+  ssa-replay --types examples/widgets.json --script events.jsonl
 
 Exit status:
   0  done
@@ -35,7 +35,7 @@ const LOOP: Player<'static> = Player {
     name: "ssa-loop",
     about: "Plays a script as ssa-replay does, with the client's bytes over a loopback socket",
     notes: "Example:
-  ssa-loop --types crates/ssa_loop/data/types.json --script crates/ssa_loop/data/script.jsonl
+  ssa-loop --types examples/widgets.json --script events.jsonl
 
 Exit status:
   0  done

@@ -79,7 +79,7 @@ const ROWS: &str =
 --types t -p 8001 => 2: error: unexpected argument '-p' found$..
 --types t 8001 => 2: error: unexpected argument '8001' found$..
 --help => 0: Serves the types of a file on loopback, with objects in memory$..
---version => 0: ssa-server 1.1.0$"#;
+--version => 0: ssa-server 1.2.0$"#;
 
 #[test]
 fn arguments_are_read(rt: HostRuntime) -> Result<(), Fail> {
