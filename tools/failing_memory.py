@@ -53,8 +53,8 @@ GATE = {
         "a_put_that_is_refused_memory", "a_prune_that_is_refused_memory",                       # of tables
         "a_write_that_is_refused_memory", "a_compaction_that_is_refused_memory",                # of stores
         "waiting_writes_that_are_refused_memory",                                               # of stores
+        "a_piece_that_is_refused_memory_is_given_up", "a_page_that_is_refused_memory_is_given_up",  # of informers
     ],
-    "client_tests": ["a_piece_that_is_refused_memory_is_given_up", "a_page_that_is_refused_memory_is_given_up"],
     "server_tests": ["calls_that_are_refused_memory"],
     "world_tests": ["a_run_that_is_refused_memory"],
 }

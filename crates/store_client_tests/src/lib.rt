@@ -1,5 +1,5 @@
-//! Tests of names and queries, of the store, and of the client's cache and its side of the wire, by public calls alone.
-//! Informers are tested in `client_tests`.
+//! Tests of names and queries, of the store, and of the client: its cache, its side of the wire, and informers with all that
+//! stands on them (`informers`); by public calls alone.
 //!
 //! An example is a name and its rows of text (`test_rows`), and one test plays the examples of a file: rows cost the prover
 //! nothing, and each call that may fail a fraction of a second. So values are told by `Debug`, as they are answered. One
@@ -12,6 +12,8 @@ mod batches;
 mod cached;
 #[cfg(test)]
 mod decoded;
+#[cfg(test)]
+mod informers;
 #[cfg(test)]
 mod names_and_versions;
 #[cfg(test)]

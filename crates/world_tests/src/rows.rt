@@ -363,7 +363,7 @@ connection 4 => HTTP/1.1 410 Gone|$Content-Type: application/json|$Content-Lengt
 connection 5 => HTTP/1.1 200 OK|$Content-Type: application/json|$Content-Length: 408|$Connection: close|$|${"apiVersion":"demo.example/v1","items":[{"apiVersion":"demo.example/v1","kind":"Widget","metadata":{"labels":{"tier":"web"},"managedFields":[{"apiVersion":"demo.example/v1","fieldsType":"FieldsV1","fieldsV1":{"f:metadata":{"f:labels":{"f:tier":{}}}},"manager":"unknown","operation":"Update"}],"name":"w1","namespace":"default","resourceVersion":"3"}}],"kind":"WidgetList","metadata":{"resourceVersion":"3"}}"#;
 
 /// What comes in part: no prefix of a request is answered, nor does one change anything; a client that is cut reports what it
-/// has read whole, and then what it lists or watches again. (`client_tests` cuts replies at every byte.)
+/// has read whole, and then what it lists or watches again. (`store_client_tests` cuts replies at every byte.)
 const CUTTING: &str = r#"no_front_of_a_request_is_answered
 fronts relisting => 7
 fronts resuming => 15

@@ -1,7 +1,7 @@
 //! Why a reply was given up, as an informer tells it: each reason that a reply of a few bytes can give. What becomes of
 //! the cache stands in `pages` and `watches`.
 
-use crate::playing::play_each;
+use crate::informers::playing::play_each;
 use std::test::Fail;
 
 const EXAMPLES: &str = r#"relist_reasons_of_lists

@@ -4,8 +4,8 @@
 //! `mirror TURNS REPLIES|REPLIES`: how so many turns of a mirror end, what is printed of them, how often the dialer was told of
 //! trouble, and of which last. `turns TURNS REPLIES|REPLIES`: the relist reason that a caller sees who takes turn after turn.
 
-use crate::playing::{Namespace, play_each};
-use crate::replies::replies;
+use crate::informers::playing::{Namespace, play_each};
+use crate::informers::replies::replies;
 use mirroring::{Dial, MirrorFault, mirror, turn};
 use reflector::{Informer, RelistReason};
 use std::alloc::{AllocError, Global};

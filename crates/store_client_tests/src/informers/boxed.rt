@@ -6,8 +6,8 @@ ghost use Rattle.std.specs.Prelude.{◌≡◌, IfOk, map, option_map, string_byt
 ghost use Rattle.indexer.specs.Objects.{stored_of};
 ghost use Rattle.summary.specs.Counts.{value_of};
 
-use crate::playing::widgets;
-use crate::replies::replies;
+use crate::informers::playing::widgets;
+use crate::informers::replies::replies;
 use indexer::{IndexBy, Indexer, Object};
 use reflector::Informer;
 use std::alloc::{AllocError, Global};

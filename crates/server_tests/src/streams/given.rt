@@ -1,6 +1,7 @@
 //! What several tests are given: an API of widgets, requests, and the replies that they get. Streams over memory stand
 //! in `over_memory`.
 
+use crate::given::WIDGET_TYPES;
 use api_types::Types;
 use serde_json::Value;
 use std::alloc::Global;
@@ -8,10 +9,6 @@ use std::io::{ErrorKind, Read, Write};
 use std::net::{SocketAddr, TcpStream};
 use std::test::Fail;
 use verbs::Api;
-
-/// One type, whose objects have an image and replicas.
-const WIDGET_TYPES: &str =
-    r#"{"types":[{"group":"demo.example","version":"v1","kind":"Widget","plural":"widgets","schema":{"type":"object","properties":{"spec":{"type":"object","properties":{"image":{"type":"string"},"replicas":{"type":"integer"}}}}}}]}"#;
 
 /// The list of all widgets.
 pub const LIST: &str = "GET /apis/demo.example/v1/widgets HTTP/1.1\r\nHost: localhost\r\n\r\n";

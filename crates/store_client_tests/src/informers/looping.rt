@@ -1,8 +1,8 @@
 //! What a caller of an informer writes who catches up over connections that are dialled: `docs/CLIENT.md` has it. The
 //! connections are those of `mirrors`.
 
-use crate::mirrors::Server;
-use crate::playing::{Namespace, expect_rows};
+use crate::informers::mirrors::Server;
+use crate::informers::playing::{Namespace, expect_rows};
 use mirroring::{Dial, sync};
 use reflector::{Informer, RelistReason};
 use std::alloc::Global;

@@ -1,7 +1,7 @@
 //! The objects that a server begins with, as rows `LINES => ANSWER`: the revision after all of them, or the first line
 //! whose object isn't created, and why. A line feed is shown as `$`.
 
-use crate::given::fresh_api;
+use crate::streams::given::fresh_api;
 use server_program::create_all;
 use std::alloc::Global;
 use std::mem;

@@ -8,7 +8,7 @@
 //! | `turn`, `serve N` | the server has a turn; it has turns until so many connections have ended |
 //! | `hear K TEXT` | nothing: K gets this, and its end but where it is a watch |
 
-use crate::given::{
+use crate::streams::given::{
     ADDED, APPLY, End, HALF, LIST, NO_ITEMS, OVERTAKEN, WATCH, expect_received, fresh_api, sent,
 };
 use observing::Unobserved;

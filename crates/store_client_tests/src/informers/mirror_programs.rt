@@ -1,7 +1,7 @@
 //! The program `ssa-mirror` without its sockets: its arguments, what it prints of replies that are written by hand, where
 //! streams fail, and the exit status of each fault. The connections are those of `mirrors`.
 
-use crate::mirrors::{Server, server_of};
+use crate::informers::mirrors::{Server, server_of};
 use api_types::Types;
 use mirror_program::{MirrorOptions, ProgramFault, options, print_changes};
 use programs::Resource;

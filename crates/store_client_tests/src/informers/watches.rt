@@ -1,6 +1,6 @@
 //! Watches, and replies that don't fit them. Lists stand in `pages`.
 
-use crate::playing::{expect_rows, play_each};
+use crate::informers::playing::{expect_rows, play_each};
 use std::test::Fail;
 
 const EXAMPLES: &str = r#"cut_stream_resumes

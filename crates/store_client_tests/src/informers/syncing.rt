@@ -3,8 +3,8 @@
 //! `sync LEAST TURNS REPLIES|REPLIES`: how it ends, how often the dialer was told that a reply was given up, and what was
 //! asked; then what stands.
 
-use crate::mirrors::{Cut, Server};
-use crate::playing::{Namespace, play_each, target_in};
+use crate::informers::mirrors::{Cut, Server};
+use crate::informers::playing::{Namespace, play_each, target_in};
 use mirroring::{Dial, MirrorFault, sync};
 use reflector::{Informer, RelistReason};
 use std::alloc::Global;

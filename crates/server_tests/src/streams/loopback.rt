@@ -1,7 +1,7 @@
 //! Connections over loopback, within this process, one after another: each has sent its request before it is served.
 //! Many at once are tested in `polled_loopback`, streams that fail in `turns`.
 
-use crate::given::{
+use crate::streams::given::{
     ADDED, APPLY, BEFORE, CREATED, EXPIRED, End, HALF, NO_ITEMS, OVERTAKEN, WATCH, expect_received,
     fresh_api, sent,
 };

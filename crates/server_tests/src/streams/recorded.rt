@@ -1,7 +1,7 @@
 //! What is recorded and logged of events, without files and sockets: the lines of a script, as rows `EVENT => LINE`, and those of
 //! a log, of a hub that has the events of its rows. That a server tells its events is tested over sockets.
 
-use crate::given::{APPLY, HALF, LIST, WATCH, fresh_api};
+use crate::streams::given::{APPLY, HALF, LIST, WATCH, fresh_api};
 use httpedge::{Event, Hub, HubFault};
 use observing::{Observer, on};
 use serde_json::Value;

@@ -1,8 +1,10 @@
 //! Turns over memory, of connections one after another and of many at once: a stream that is cut, has no room or fails
 //! changes no byte of another connection. Sockets are tested in `loopback` and `polled_loopback`.
 
-use crate::given::{ADDED, APPLY, CREATED, HALF, LIST, NO_ITEMS, WATCH, expect, fresh_api};
-use crate::over_memory::{MOST, Memory, PLENTY};
+use crate::streams::given::{
+    ADDED, APPLY, CREATED, HALF, LIST, NO_ITEMS, WATCH, expect, fresh_api,
+};
+use crate::streams::over_memory::{MOST, Memory, PLENTY};
 use httpedge::{Event, Hub, HubFault};
 use observing::Unobserved;
 use polling::{Next, Peer};

@@ -1,6 +1,9 @@
-//! What a controller is told, and what its informer keeps then.
+//! How a controller is tested in one process: a server and an informer, without a socket or a clock. A test applies objects and
+//! deletes them, gives the informer its turn, and looks at what it was told and what it keeps.
 
-use crate::process::Process;
+mod process;
+
+use crate::controller::process::Process;
 use reflector::Notice;
 use std::alloc::Global;
 use std::mem;

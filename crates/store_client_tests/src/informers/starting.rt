@@ -1,7 +1,7 @@
 //! The settings that an informer is made with: its first request, or why it is refused. Replies are played in `pages` and
 //! `watches`.
 
-use crate::playing::{ask, informer};
+use crate::informers::playing::{ask, informer};
 use std::alloc::Global;
 use std::test::Fail;
 use test_rows::{Answers, first_word, in_words, play_all};

@@ -1,6 +1,6 @@
 //! Summaries that count an informer's notices; the informer alone is tested in `pages` and `watches`.
 
-use crate::playing::expect_rows;
+use crate::informers::playing::expect_rows;
 use std::test::Fail;
 
 /// A restart forgets what was read, a deletion is told, and the apply says the counts.

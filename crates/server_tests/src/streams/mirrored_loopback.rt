@@ -1,7 +1,7 @@
 //! A client over loopback, within this process, of a server that serves one connection after another: each connection that
-//! it dials is served before its reply is read, and then what others write. Replies by hand are told in `client_tests`.
+//! it dials is served before its reply is read, and then what others write. Replies by hand are told in `store_client_tests`.
 
-use crate::given::{APPLY, fresh_api, widget_types};
+use crate::streams::given::{APPLY, fresh_api, widget_types};
 use mirror_program::{Loopback, MirrorOptions, ProgramFault, print_changes};
 use mirroring::Dial;
 use observing::Unobserved;

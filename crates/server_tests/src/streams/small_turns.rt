@@ -1,7 +1,7 @@
 //! How many lines the turns of a watch tell, by how large they are, as rows `OBJECTS SIZE => LINES`: so many objects with an image
 //! of so many letters, and the lines of turn after turn of a watch that begins with them. Other turns are tested in `turns`.
 
-use crate::given::{WATCH, fresh_api};
+use crate::streams::given::{WATCH, fresh_api};
 use httpedge::{Event, Hub};
 use observing::Unobserved;
 use polling::{Peer, Stream};

@@ -1,9 +1,9 @@
 //! An informer and a summary that answer the questions of rows; the replies that they are fed are made in `replies`.
 
-use crate::looping::followed;
-use crate::mirrors::{mirrored, server_of, troubled};
-use crate::replies::{replies, reply};
-use crate::syncing::synced;
+use crate::informers::looping::followed;
+use crate::informers::mirrors::{mirrored, server_of, troubled};
+use crate::informers::replies::{replies, reply};
+use crate::informers::syncing::synced;
 use indexer::{IndexBy, Indexer, Object};
 use reflector::{Informer, Notice, SettingsFault, Source};
 use std::alloc::{AllocError, Global};

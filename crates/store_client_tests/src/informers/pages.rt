@@ -1,6 +1,6 @@
 //! Lists in pages, and replies that don't fit them. Watches stand in `watches`.
 
-use crate::playing::{expect_rows, play_each};
+use crate::informers::playing::{expect_rows, play_each};
 use std::test::Fail;
 
 const EXAMPLES: &str = r#"paged_relist_over_compaction
