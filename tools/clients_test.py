@@ -11,6 +11,7 @@ The last line counts what passed and what failed; the status is 1 where somethin
 from __future__ import annotations
 
 import concurrent.futures
+import glob
 import importlib.util
 import os
 import shutil
@@ -50,9 +51,12 @@ class Step:
 
 def python_steps() -> Iterator[Step]:
     missing = "" if importlib.util.find_spec("kubernetes") else "python3-kubernetes isn't installed"
-    yield Step("clients/python", PYTHON, sys.executable, "-W", "error::ResourceWarning", "-m", "unittest", "-q")
-    yield Step("clients/python, the package kubernetes", PYTHON, sys.executable, "-m", "unittest", "-q", "tests.test_kubernetes",
-               skipped=missing)
+    for path in sorted(glob.glob(f"{PYTHON}/tests/test_*.py")):
+        name = os.path.basename(path).removesuffix(".py")
+        is_of_theirs = name == "test_kubernetes"
+        strictly = () if is_of_theirs else ("-W", "error::ResourceWarning")
+        yield Step(f"clients/python, {name}", PYTHON, sys.executable, *strictly, "-m", "unittest", "-q", f"tests.{name}",
+                   skipped=missing if is_of_theirs else "")
     for name in ("first_test.py", "reconcile.py", "lease.py"):
         yield Step(f"examples/{name}", f"{TOP}/examples", sys.executable, name, PYTHONPATH=PYTHON)
 

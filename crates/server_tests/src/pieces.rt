@@ -1,5 +1,5 @@
-//! Requests that come in pieces, or not whole: malformed and large ones cut at every place, and every prefix of what comes at
-//! each row of the other examples.
+//! Requests that come in pieces, or not whole: malformed ones cut at every place, large ones at many, and every prefix of what
+//! comes at each row of the other examples.
 
 /// `hub_rows` says what the rows are, and plays them.
 pub const PIECES: &str = r#"heads_are_limited on widgets
@@ -30,7 +30,7 @@ cut 21000 PUT /apis/demo.example/v1/namespaces/default/widgets/w1 HTTP/1.1|$Host
 cut 22000 PUT /apis/demo.example/v1/namespaces/default/widgets/w1 HTTP/1.1|$Host: x|$Content-Length: 256|$|$<128 [><128 ]> => 400 body is not JSON
 got 30000 GET widgets => 200 {"apiVersion":"demo.example/v1","items":[],"kind":"WidgetList","metadata":{"resourceVersion":"1"}}"#;
 
-/// A head of one byte too much, cut at every place; by itself, since it takes longest.
+/// A head of one byte too much; by itself, since it takes longest.
 pub const LARGER_HEADS: &str = r#"larger_heads_are_refused on widgets
 cut 1 <16385 a> => 431 request head too large
 got 20000 GET widgets => 200 {"apiVersion":"demo.example/v1","items":[],"kind":"WidgetList","metadata":{"resourceVersion":"1"}}"#;

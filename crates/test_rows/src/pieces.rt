@@ -1,5 +1,5 @@
-//! Requests that come in pieces, or not whole: malformed and large ones cut at every place, and every prefix of what comes at
-//! each row of examples.
+//! Requests that come in pieces, or not whole: malformed ones cut at every place, large ones at many, and every prefix of what
+//! comes at each row of examples.
 
 use crate::replies::reply_in_words;
 use crate::served::{Serves, asks, comes, comes_next, goes, received, request_of};
@@ -27,6 +27,23 @@ fn cut_at<S: Serves>(
     reply_in_words(alloc, reply.as_str(), false)
 }
 
+/// Up to how many bytes are cut at each place.
+const WHOLE: usize = 4096;
+
+/// How many of more bytes are, at either end.
+const NEAR: usize = 512;
+
+/// The others are cut at each place that this divides.
+const APART: usize = 16;
+
+/// Whether so many bytes are cut at a place.
+fn is_cut_at(place: usize, count: usize) -> bool {
+    count <= WHOLE
+        || place < NEAR
+        || count.saturating_sub(place) < NEAR
+        || place.checked_rem(APART) == Some(0)
+}
+
 /// The same wherever the bytes are cut, on connections from an id on; the test fails where it isn't.
 pub fn cut_anywhere<S: Serves>(
     alloc: Global,
@@ -36,6 +53,9 @@ pub fn cut_anywhere<S: Serves>(
 ) -> Result<String, Fail> {
     let mut answer = cut_at(alloc, served, first, b"", bytes)?;
     for cut in 1..bytes.len() {
+        if !is_cut_at(cut, bytes.len()) {
+            continue;
+        }
         let id = first.saturating_add(cut as u64);
         let next = cut_at(alloc, served, id, &bytes[..cut], &bytes[cut..])?;
         if next.as_str() != answer.as_str() {

@@ -78,8 +78,14 @@ pub fn moves(alloc: Global, words: &str, steps: &str, most: &str) -> Result<Stri
     moves_and_reports(alloc, &made)
 }
 
-/// After how many drawn events the client catches up, each time.
-const EVERY: usize = 250;
+/// In how many worlds the client catches up.
+const WORLDS: u64 = 10;
+
+/// How many drawn events each takes.
+const EVENTS: u64 = 500;
+
+/// After how many of these the client catches up, each time.
+const EVERY: usize = 50;
 
 /// How many moves it may make: the list has at most eight pages.
 const MOST: usize = 44;
@@ -142,20 +148,28 @@ fn expect_revision(list: &str, revision: u64) -> Result<(), Fail> {
     Ok(())
 }
 
-/// Wherever thousands of events of all kinds have left it, it catches up.
-#[test]
-fn a_client_catches_up_after_any_events(rt: HostRuntime) -> Result<(), Fail> {
-    let alloc = rt.alloc();
+/// The client catches up, again and again, in a world whose events are drawn from a number.
+fn catches_up_in(alloc: Global, first: u64) -> Result<(), Fail> {
     let mut followed = Followed {
         world: world_after(alloc, "page=2", &[])?,
         count: 0,
         revision: 0,
     };
-    for (index, event) in drawn_events(alloc)?.iter().enumerate() {
+    for (index, event) in drawn_events(alloc, first, EVENTS)?.iter().enumerate() {
         followed.takes(event)?;
         if (index + 1).checked_rem(EVERY) == Some(0) {
             followed.catches_up(alloc)?;
         }
+    }
+    Ok(())
+}
+
+/// Wherever thousands of events of all kinds have left it, it catches up. (A step looks at all connections that there were: many
+/// short runs take less time than a long one.)
+#[test]
+fn a_client_catches_up_after_any_events(rt: HostRuntime) -> Result<(), Fail> {
+    for first in 0..WORLDS {
+        catches_up_in(rt.alloc(), first)?;
     }
     Ok(())
 }

@@ -1,4 +1,4 @@
-//! A run of thousands of events of all kinds, drawn from a fixed number: with ample memory it ends well, and what the client
+//! A run of thousands of events of all kinds, drawn from a number: with ample memory it ends well, and what the client
 //! reports at its end is what the server lists then.
 
 use crate::events::events;
@@ -7,11 +7,11 @@ use std::alloc::{AllocError, Global};
 use std::test::Fail;
 use world::{Trace, WorldEvent, run};
 
-/// How many events are drawn.
-const EVENTS: u64 = 5000;
+/// What the long run is drawn from.
+const FIRST: u64 = 27;
 
-/// Before which of them the list of ports becomes atomic.
-const TYPES_CHANGE: u64 = 2500;
+/// How many events it has.
+const EVENTS: u64 = 5000;
 
 /// What each is drawn from: `#` is a number below 8, `^` the place among all events, `%` a number below a quarter of it. `!` is
 /// an id that is opened, twenty times the place, `*` the last of these, and `@` that or one of those behind it, which
@@ -103,16 +103,17 @@ fn push_step(
     text.push_str("; ")
 }
 
-/// The steps of the drawn events, each with `; ` behind it.
-fn drawn_steps(alloc: Global) -> Result<String, Fail> {
+/// The steps of so many events that are drawn from a number, each with `; ` behind it. Amid them the list of ports becomes
+/// atomic.
+fn drawn_steps(alloc: Global, first: u64, events: u64) -> Result<String, Fail> {
     let count = STEPS.lines().count() as u64;
     let mut draws = Draws {
-        last: 27,
+        last: first,
         opened: 0,
     };
     let mut text = String::new(alloc);
-    for place in 0..EVENTS {
-        if place == TYPES_CHANGE {
+    for place in 0..events {
+        if place == events / 2 {
             text.push_str("types atomic; ")?;
         }
         let at = draws.below(count) as usize;
@@ -122,16 +123,16 @@ fn drawn_steps(alloc: Global) -> Result<String, Fail> {
     Ok(text)
 }
 
-/// The drawn events, and then a list for the client and one for another peer.
+/// The events of the long run, and then a list for the client and one for another peer.
 fn drawn(alloc: Global) -> Result<Vec<WorldEvent>, Fail> {
-    let mut text = drawn_steps(alloc)?;
+    let mut text = drawn_steps(alloc, FIRST, EVENTS)?;
     text.push_str("restart; send; server; client; ask GET /apis/demo.example/v1/widgets")?;
     events(alloc, text.as_str())
 }
 
-/// The drawn events alone.
-pub fn drawn_events(alloc: Global) -> Result<Vec<WorldEvent>, Fail> {
-    let text = drawn_steps(alloc)?;
+/// So many events that are drawn from a number.
+pub fn drawn_events(alloc: Global, first: u64, count: u64) -> Result<Vec<WorldEvent>, Fail> {
+    let text = drawn_steps(alloc, first, count)?;
     events(alloc, text.as_str().strip_suffix("; ").ok_or("no step")?)
 }
 
