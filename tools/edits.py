@@ -4,29 +4,36 @@
     tools/edits.py TREE CRATE KEPT EDIT..
 
 tries edits of a crate of TREE, over its built libraries, and prints a line of JSON for each: the edit's path, how it
-ended, and what is to be said. `tools/more-edits` and the gate use it. KEPT is a folder for what the checks keep between
-each other. With --sure before TREE the crate itself is checked over that folder at the end, and where it isn't proved
-there, each edit is tried again from scratch.
+ended, and what is to be said; and last one that says how all were tried. `tools/more-edits` and the gate use it. KEPT is a
+folder for what the checks keep between each other, or `-`: then each begins from scratch.
 
-Edits of different functions are tried in one check of these functions alone, with what they call (`rattle check --only`):
-an edit is refused where the prover says that its own function isn't proved. One that changes something else than a
-function, or of which that can't be said, is tried by a check of the whole crate, as `rt must-fail` does.
+An edit turns a copy of its function under another name (tools/copies.py), and one check tries many: of these functions,
+their copies and what they call alone (`rattle check --only`). An edit is refused where its copy isn't proved, while in this
+very check the untouched function is, and one more copy of it that no edit turns. What can't be copied, or isn't refused so,
+is tried in place, in rounds: edits of different functions in one check, each refused where the prover says that its own
+function isn't proved. One that changes something else than a function, or of which that can't be said, is tried by a check
+of the whole crate, as `rt must-fail` does.
 """
 
 from __future__ import annotations
 
+import copy
 import fcntl
 import json
 import os
 import re
+import shutil
 import signal
 import subprocess
 import sys
+import tempfile
 from collections.abc import Iterable, Iterator
 from types import ModuleType
 from typing import Any, NamedTuple
 
 import repository
+from copies import Copied, Group, copies_of, groups_of
+from functions import Function, functions_in, read
 
 REFUSED, WEAKLY, LET_THROUGH, BAD = (
     "refused",
@@ -36,6 +43,10 @@ REFUSED, WEAKLY, LET_THROUGH, BAD = (
 )
 # Said of an edit before it is tried by a check of its own.
 OPEN = "open"
+# Said of no edit, once all were tried: how.
+TOLD = "told"
+# In place of a folder for what checks keep, where none keeps any for another.
+NOTHING = "-"
 # What this program ends with where the system killed a check, most likely for memory: the edits may be tried again.
 KILLED = 75
 MOST_IN_A_ROUND = 16
@@ -43,21 +54,7 @@ MOST_IN_A_ROUND = 16
 TOOK = re.compile(
     r"(?:\./)?proofs/.*(has no field|is not in scope|has no `|was not admitted)"
 )
-NOT_PROVED = re.compile(r"fn \w+::(\S+): (?:not proved|no proof)")
-
-
-class Function(NamedTuple):
-    """A function of a source: the end of its name as the prover prints it, its lines from 1, and its cycle, if any."""
-
-    path: str
-    name: str
-    first: int
-    last: int
-    cycle: str
-
-    def key(self) -> tuple[str, str]:
-        """What two edits of one check may not both change."""
-        return ("", self.cycle) if self.cycle else (self.path, self.name)
+VERDICT = re.compile(r"fn \w+::(\S+): (proved|not proved|no proof|could not tell)")
 
 
 class Tried(NamedTuple):
@@ -74,57 +71,6 @@ Turned = dict[str, set[Function] | None]
 def label(edit: str) -> str:
     """An edit as it is told: CRATE/FOLDER/NAME."""
     return "/".join(edit.split("/")[-3:])
-
-
-def joined(text: str) -> str:
-    """A type or a trait as the prover writes it in the name of an impl: its words, each with a capital."""
-    words = re.findall(r"(?<!')\b[A-Za-z_]\w*(?!\w|::)", text)
-    return "".join(word[0].upper() + word[1:] for word in words)
-
-
-def owner_of(line: str) -> str | None:
-    """The name of the impl or trait that a line begins, or None."""
-    found = re.match(
-        r"(?:pub )?(impl|trait)(?:<[^{]*?>)? (?:([^{]+?) for )?([^{]+?)(?: where .*)?(?: \{|$)",
-        line,
-    )
-    if not found:
-        return None
-    if found[2]:
-        return joined(found[3]) + joined(found[2])
-    return re.split(r"\W", found[3].strip())[0]
-
-
-def functions_in(path: str, lines: list[str]) -> list[Function]:
-    """Each function of a source that has a body."""
-    module = "::".join(re.sub(r"^src/|\.rt$", "", path).split("/"))
-    module = "" if module in ("lib", "main") else module
-    found, owner, cycle = [], "", ""
-    for first, line in enumerate(lines, 1):
-        owner = owner_of(line) or ("" if line == "}" else owner)
-        marked = re.search(r"#\[cycle\((\w+)\)\]", line)
-        cycle = f"+{marked[1]}" if marked else cycle
-        head = re.match(
-            r"( *)(?:pub(?:\([a-z]+\))? )?(?:const )?(?:unsafe )?fn (\w+)", line
-        )
-        if not head:
-            continue
-        if not line.endswith(";"):
-            ends = (
-                at
-                for at in range(first, len(lines) + 1)
-                if lines[at - 1] == head[1] + "}"
-            )
-            name = f"{owner or module}::{head[2]}".removeprefix("::")
-            found.append(Function(path, name, first, next(ends, first), cycle))
-        cycle = ""
-    return found
-
-
-def read(path: str) -> str:
-    """The text of a file."""
-    with open(path, encoding="utf-8") as it:
-        return it.read()
 
 
 def turned_by(edit: str, folder: str) -> set[Function] | None:
@@ -144,9 +90,7 @@ def turned_by(edit: str, folder: str) -> set[Function] | None:
             lines = read(f"{folder}/{path}").split("\n")
         elif kind == "old":
             at = next((n for n, line in enumerate(lines, 1) if rest in line), 0)
-            inside = [
-                it for it in functions_in(path, lines) if it.first <= at <= it.last
-            ]
+            inside = [it for it in functions_in(path, lines) if it.has(at)]
             found.update(inside[-1:] or users_of(constant_at(lines, at), folder))
             if not found:
                 return None
@@ -197,14 +141,22 @@ def rounds_of(edits: Iterable[str], folder: str) -> list[list[str]]:
     return [it for _, it in rounds]
 
 
+def checks_of(groups: Iterable[Group]) -> list[list[Group]]:
+    """The functions by check, of which each has no more edits than a round."""
+    checks: list[list[Group]] = []
+    for group in groups:
+        count = sum(len(it.bodies) for it in checks[-1]) if checks else MOST_IN_A_ROUND
+        if count + len(group.bodies) > MOST_IN_A_ROUND:
+            checks.append([])
+        checks[-1].append(group)
+    return checks
+
+
 def is_of(line: str, functions: set[Function]) -> bool:
     """Whether a line of the prover complains of one of these functions."""
     place = re.match(r"(?:note: )?(?:\./)?(src/\S+?):(\d+):\d+: ", line)
     if place and ("not proved" in line or ": error" in line):
-        return any(
-            it.path == place[1] and it.first <= int(place[2]) <= it.last
-            for it in functions
-        )
+        return any(it.path == place[1] and it.has(int(place[2])) for it in functions)
     proof = re.match(r"(?:\./)?proofs/(\S+)/[\w-]+\.antt:\d+:\d+: error", line)
     if not proof:
         return False
@@ -212,18 +164,83 @@ def is_of(line: str, functions: set[Function]) -> bool:
     return any(f"/{proof[1]}".endswith(f"/{folder}") for folder in folders)
 
 
-class Trials:
-    """Trials of edits of one crate, over its built libraries."""
+def verdicts(lines: Iterable[str]) -> list[tuple[str, str]]:
+    """The functions of which a check says whether they are proved, each with what it says."""
+    return [(found[1], found[2]) for found in map(VERDICT.match, lines) if found]
 
-    def __init__(self, rt: ModuleType, crate: Any, kept: str) -> None:
+
+def said_of(function: Function, lines: Iterable[str]) -> list[str]:
+    """What a check says of a function: whether it is proved."""
+    return [
+        said
+        for name, said in verdicts(lines)
+        if f"::{function.name}::" in f"::{name}::"
+    ]
+
+
+def is_refused(function: Function, lines: Iterable[str]) -> bool:
+    """Whether a check says that a function isn't proved."""
+    return any(it in ("not proved", "no proof") for it in said_of(function, lines))
+
+
+def refusal(edit: str, told: list[str], beside: str = "") -> list[Tried]:
+    """That an edit is refused, by what the prover tells of its function, if that says it."""
+    first = next((it for it in told if not TOOK.match(it)), None)
+    if first is not None:
+        text = f"refused, as it must be{beside}: {first[:160]}"
+        return [Tried(edit, REFUSED, text)]
+    if told:
+        text = f"refused{beside}, but only because a proof file names what the edit took away: {told[0][:160]}"
+        return [Tried(edit, WEAKLY, text)]
+    return []
+
+
+def refused_copies(of: Copied, lines: list[str]) -> list[Tried]:
+    """The edits of a function that a check refuses in their copies, if it proves the function and the copy that no edit turns."""
+    for control in (of.function, of.same):
+        if {*said_of(control, lines)} != {"proved"}:
+            return []
+    name = of.function.own_name()
+    beside = f", beside {name} and its copy {of.same.own_name()}, which are proved"
+    found = []
+    for edit, turned in of.turned.items():
+        if is_refused(turned, lines):
+            told = [of_original(it, of, turned) for it in lines if is_of(it, {turned})]
+            found += refusal(edit, told, beside)
+    return found
+
+
+def of_original(line: str, of: Copied, turned: Function) -> str:
+    """What the prover tells of a copy, as it would of the function."""
+
+    def place(found: re.Match[str]) -> str:
+        at = int(found[2])
+        shift = of.function.first - turned.first if turned.has(at) else 0
+        return f"{found[1]}{at + shift}"
+
+    line = re.sub(rf"({re.escape(turned.path)}:)(\d+)", place, line)
+    return re.sub(rf"\b{turned.own_name()}\b", of.function.own_name(), line)
+
+
+class Trials:
+    """Trials of edits of one crate, over its built libraries, and over what checks kept, where a folder for that is given."""
+
+    def __init__(self, rt: ModuleType, crate: Any, kept: str | None) -> None:
         self.rt, self.crate, self.kept = rt, crate, kept
-        self.checks = 0
-        os.makedirs(kept, exist_ok=True)
+        # (a function that one edit turns is sooner tried in place, where no control is asked for)
+        self.fewest = 2 if kept else 1
+        self.by_copies = self.in_rounds = 0
+        # The end of what the last check said that didn't judge its functions.
+        self.no_verdict = ""
+        if kept:
+            os.makedirs(kept, exist_ok=True)
 
     def applied(self, edit: str) -> tuple[dict[str, str] | None, str | None]:
         """The texts of the files that an edit changes, or why it can't be applied."""
+        found: tuple[dict[str, str] | None, str | None]
         try:
-            return self.rt.edited(read(edit), self.crate.folder)
+            found = self.rt.edited(read(edit), self.crate.folder)
+            return found
         except (OSError, ValueError) as error:
             return None, f"it cannot be read ({error})"
 
@@ -242,62 +259,70 @@ class Trials:
                         lines[at] = line
         return {path: "\n".join(lines) for path, lines in texts.items()}
 
-    def checked(
-        self, texts: dict[str, str], functions: Iterable[Function]
-    ) -> subprocess.CompletedProcess[str]:
-        """A check of these functions and of what they call, with these texts in place of the crate's own."""
+    def lines_of(
+        self, crate: Any, texts: dict[str, str], functions: Iterable[Function]
+    ) -> list[str]:
+        """What a check says of these functions and of what they call, with these texts in place of the crate's own; nothing
+        where it doesn't judge them all.
+        """
         only = [
             word
             for name in sorted({it.name for it in functions})
             for word in ("--only", name)
         ]
-        self.checks += 1
-        return self.rt.checked(self.crate, texts, ["--jobs", "1", *only], self.kept)
+        ran = self.rt.checked(crate, texts, ["--jobs", "1", *only], self.kept)
+        lines: list[str] = ran.stdout.rstrip("\n").split("\n")
+        is_judged = ran.returncode in (0, 1) and lines[-1].startswith("only=")
+        if (
+            not is_judged
+            or self.rt.rtlib.STALE.search(ran.stdout)
+            or any(self.rt.unread(it, texts) for it in lines)
+        ):
+            self.no_verdict = lines[-1][:160]
+            return []
+        return lines
 
     def together(self, turned: Turned) -> list[Tried]:
         """Tries edits of different functions in one check; says how those ended of which that can be said."""
         texts = self.texts_with(turned)
         if texts is None or not all(turned.values()):
             return []
-        ran = self.checked(texts, set().union(*(it for it in turned.values() if it)))
-        lines = ran.stdout.rstrip("\n").split("\n")
-        is_judged = ran.returncode == 1 and lines[-1].startswith("only=")
-        if (
-            not is_judged
-            or self.rt.rtlib.STALE.search(ran.stdout)
-            or any(self.rt.unread(it, texts) for it in lines)
-        ):
-            return []
-        refused = [it[1] for it in map(NOT_PROVED.match, lines) if it]
+        every = set().union(*(it for it in turned.values() if it))
+        lines = self.lines_of(self.crate, texts, every)
         found = []
         for edit, functions in turned.items():
             functions = functions or set()
-            if not any(
-                f"::{it.name}::" in f"::{name}::"
-                for name in refused
-                for it in functions
-            ):
-                continue
-            told = [it for it in lines if is_of(it, functions)]
-            first = next((it for it in told if not TOOK.match(it)), "")
-            if first or len(turned) == 1 and not told:
-                found.append(
-                    Tried(edit, REFUSED, f"refused, as it must be: {first[:160]}")
-                )
-            elif told:
-                found.append(
-                    Tried(
-                        edit,
-                        WEAKLY,
-                        f"refused, but only because a proof file names what the edit took away: {told[0][:160]}",
-                    )
-                )
+            if any(is_refused(it, lines) for it in functions):
+                told = [it for it in lines if is_of(it, functions)]
+                if not told and len(turned) == 1:
+                    told = [""]
+                found += refusal(edit, told)
         return found
 
-    def alone(self, edit: str, kept: str | None) -> Tried:
+    def beside(self, groups: list[Group]) -> list[Tried]:
+        """Tries edits in one check in which each turns a copy of its function; says which of them were refused there, while
+        the function itself and one more copy of it were proved.
+        """
+        made = copies_of(groups, self.crate.folder, self.crate.name)
+        every = [
+            it for of in made.of for it in (of.function, of.same, *of.turned.values())
+        ]
+        with tempfile.TemporaryDirectory(prefix=f"rt-edit-{os.getpid()}-") as room:
+            for part in self.rt.rtlib.PARTS:
+                if os.path.isdir(f"{self.crate.folder}/{part}"):
+                    shutil.copytree(f"{self.crate.folder}/{part}", f"{room}/{part}")
+            for path, text in made.texts.items():
+                os.makedirs(os.path.dirname(f"{room}/{path}"), exist_ok=True)
+                with open(f"{room}/{path}", "w", encoding="utf-8") as it:
+                    it.write(text)
+            crate = copy.copy(self.crate)
+            crate.folder = room
+            lines = self.lines_of(crate, made.sources(), every)
+        return [it for of in made.of for it in refused_copies(of, lines)]
+
+    def alone(self, edit: str) -> Tried:
         """Tries an edit by a check of the whole crate."""
-        self.checks += 1
-        kind, text = self.rt.must_fail(self.crate, edit, ["--jobs", "1"], kept)
+        kind, text = self.rt.must_fail(self.crate, edit, ["--jobs", "1"], self.kept)
         text = text.partition(".edit: ")[2] or text
         # (the kit 13b answers whether it was refused, and 13f how it ended)
         if kind in (
@@ -313,11 +338,30 @@ class Trials:
         if why:
             return Tried(edit, BAD, f"BAD EDIT: {why}")
         found = self.together({edit: turned}) if turned else []
-        return found[0] if found else self.alone(edit, self.kept)
+        return found[0] if found else self.alone(edit)
+
+    def with_copies(self, edits: Iterable[str]) -> Iterator[Tried]:
+        """Tries edits by copies, where that can be; those that aren't refused there are open."""
+        edited = {edit: self.applied(edit)[0] for edit in edits}
+        groups = groups_of(
+            {edit: texts for edit, texts in edited.items() if texts}, self.crate.folder
+        )
+        groups = [it for it in groups if len(it.bodies) >= self.fewest]
+        for some in checks_of(groups):
+            found = {it.edit: it for it in self.beside(some)}
+            for edit in (edit for it in some for edit in it.bodies):
+                yield found.get(edit, Tried(edit, OPEN, ""))
 
     def all_of(self, edits: Iterable[str]) -> Iterator[Tried]:
-        """Tries edits, in rounds."""
-        for together in rounds_of(edits, self.crate.folder):
+        """Tries edits: by copies, and what is then left in rounds."""
+        left = list(edits)
+        for tried in self.with_copies(left[:]):
+            yield tried
+            if tried.kind != OPEN:
+                left.remove(tried.edit)
+                self.by_copies += 1
+        self.in_rounds += len(left)
+        for together in rounds_of(left, self.crate.folder):
             turned = {edit: turned_by(edit, self.crate.folder) for edit in together}
             found = (
                 {it.edit: it for it in self.together(turned)}
@@ -330,18 +374,10 @@ class Trials:
                     yield Tried(edit, OPEN, "")
                     yield self.one(edit, turned[edit])
 
-    def is_sound(self, edits: Iterable[str]) -> bool:
-        """Whether the functions that these edits change are proved as they stand, over what was kept."""
-        turned = [turned_by(edit, self.crate.folder) for edit in edits]
-        functions = set().union(*(it for it in turned if it))
-        return self.checked({}, functions if all(turned) else ()).returncode == 0
-
-    def surely(self, edits: list[str]) -> Iterator[Tried]:
-        """Tries edits, and tries them again from scratch where several checks were made and what they kept isn't sound."""
-        tried = list(self.all_of(edits))
-        if self.checks > 1 and not self.is_sound(edits):
-            tried = [self.alone(edit, None) for edit in edits]
-        yield from tried
+    def told(self) -> str:
+        """How the edits were tried."""
+        why = f"; a check gave no verdict: {self.no_verdict}" if self.no_verdict else ""
+        return f"{self.crate.name}: wrong bodies tried by copies: {self.by_copies}, in rounds: {self.in_rounds}{why}"
 
 
 class Killed(Exception):
@@ -353,7 +389,7 @@ def watched(rt: ModuleType) -> ModuleType:
     checked = rt.checked
 
     def check(*given: Any) -> subprocess.CompletedProcess[str]:
-        ran = checked(*given)
+        ran: subprocess.CompletedProcess[str] = checked(*given)
         if ran.returncode == -signal.SIGKILL:
             raise Killed
         return ran
@@ -373,17 +409,17 @@ def build_missing(crate: Any, tree: str) -> None:
 
 def main(words: list[str]) -> int:
     """Tries the edits that the words name."""
-    is_sure = words[:1] == ["--sure"]
-    tree, name, kept, *edits = words[is_sure:]
+    tree, name, kept, *edits = words
     rt = watched(repository.kit())
     crate = rt.Crate(f"{tree}/crates/{name}", tree, {})
     build_missing(crate, tree)
-    trials = Trials(rt, crate, kept)
+    trials = Trials(rt, crate, None if kept == NOTHING else kept)
     try:
-        for tried in trials.surely(edits) if is_sure else trials.all_of(edits):
+        for tried in trials.all_of(edits):
             print(json.dumps(tried), flush=True)
     except Killed:
         return KILLED
+    print(json.dumps(Tried("", TOLD, trials.told())), flush=True)
     return 0
 
 

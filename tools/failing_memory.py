@@ -11,7 +11,7 @@ PROGRAM   a crate's name, whose program `rt run` built as crates/CRATE/out/CRATE
 ARGUMENT  what the program is run with, here where this script is run
 
 TESTS. A test marks the calls that it is about by an allocation of exactly 1,000,003 bytes before and after them
-(`test_rows::mark`). Each test runs alone, with ample memory. At each allocation of a marked part a copy of the process goes on
+(`mark`). Each test runs alone, with ample memory. At each allocation of a marked part a copy of the process goes on
 with that one refused, and with --stay with each later one too, up to the end of the part. The test must pass with ample memory
 and in each copy, and it must have a marked part, or that is a finding, told with the number of the allocation, its part, how the
 copy ended and what it said. One line is told for each test.
@@ -48,12 +48,14 @@ MOST_TOLD = 10
 WORDS = "refused_memory"
 GATE = {
     "contents_tests": ["an_apply_that_is_refused_memory", "a_write_by_status_that_is_refused_memory"],
-    "store_client_tests": [
+    "client_tests": [
         "a_put_that_is_refused_memory", "a_replace_that_is_refused_memory",                     # of cached
+        "a_piece_that_is_refused_memory_is_given_up", "a_page_that_is_refused_memory_is_given_up",  # of informers
+    ],
+    "upper_tests": [
         "a_put_that_is_refused_memory", "a_prune_that_is_refused_memory",                       # of tables
         "a_write_that_is_refused_memory", "a_compaction_that_is_refused_memory",                # of stores
         "waiting_writes_that_are_refused_memory",                                               # of stores
-        "a_piece_that_is_refused_memory_is_given_up", "a_page_that_is_refused_memory_is_given_up",  # of informers
     ],
     "server_tests": ["calls_that_are_refused_memory"],
     "world_tests": ["a_run_that_is_refused_memory"],

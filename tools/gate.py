@@ -1,7 +1,8 @@
 #!/usr/bin/env python3
 """The gate, and what can be asked of it. `./test` runs it.
 
-    ./test              proves everything from scratch, tries wrong bodies, runs all tests and programs
+    ./test              proves everything, tries wrong bodies, runs all tests and programs
+    ./test edits        proves every crate, and for five minutes tries other wrong bodies than the listed ones
     ./test quick        runs the tests, the programs and the commands of the pages without a proof
     ./test CRATE..      proves and tests these crates alone, and tries their listed wrong bodies
 
@@ -11,8 +12,10 @@ which each allocation is refused, each command of the pages, each generated page
 
 The proofs are those of `rt ci`, over a copy of the working folder without `must-fail/`, so that no crate waits for wrong
 bodies. These are tried beside it where a processor is idle, and after it, over the libraries that it has built, by checks
-of the functions that they turn (tools/edits.py); then, for five minutes, others of `more-edits/` (tools/trials.py). What
-was built stays in crates/NAME/out/.
+of the functions that they turn (tools/edits.py); then, for a minute at most, those of `more-edits/` that turn functions which
+changed (tools/trials.py). What was built stays in crates/NAME/out/, and in out/needs.txt what the provers took (tools/needs.py).
+Of the proofs the lines above the last one say which were made in this run, and which were taken from an earlier run on this
+machine, by the sums of all that they were made of (tools/proofs.py).
 """
 
 from __future__ import annotations
@@ -29,18 +32,23 @@ import tempfile
 import time
 import traceback
 from collections.abc import Iterator
+from types import ModuleType
 
 import edits
 import gate_cost
+import needs
+import proofs
 import quick
 import repository
 import trials
 from repository import TOP
 from results import Results
 
-SECONDS_OF_OTHER_EDITS = 300
+SECONDS_OF_CHANGED, SECONDS_OF_OTHERS = 60, 300
 EDIT = re.compile(r"[A-Za-z0-9_-][A-Za-z0-9_.-]*\.edit")
 LISTED, OTHERS = "must-fail", "more-edits"
+# The file in the run's folder that says which proofs were made in the run.
+PROOFS = "proofs"
 
 
 @contextlib.contextmanager
@@ -84,7 +92,8 @@ def prove(
     """Runs `rt ci` over the copy, and has a crate's listed edits tried once it is proved; returns the crates that passed."""
     proved: set[str] = set()
     said, lost = "", ""
-    command = [*tries.rt.rtlib.guarded(), f"{TOP}/tools/proofs.py"]
+    words = [f"{TOP}/tools/proofs.py", "--told", f"{folder}/{PROOFS}"]
+    command = [*tries.rt.rtlib.guarded(), *words]
     with repository.started(command, f"{folder}/tree") as started:
         for line in started.stdout or ():
             print(line, end="", flush=True)
@@ -122,6 +131,8 @@ def take_built(folder: str, passed: set[str], results: Results) -> None:
                 print(f"gate: {name} has the sum {sum_of(made)}", flush=True)
                 if crate in passed:
                     count_run(name, made, name != crate, results)
+    for tree in (TOP, f"{folder}/tree"):
+        quick.link_names(tree)
 
 
 def sum_of(path: str) -> str:
@@ -143,64 +154,108 @@ def count_run(name: str, made: str, is_tests: bool, results: Results) -> None:
 
 
 def try_others(
-    folder: str, proved: set[str], tries: trials.Trials, results: Results
+    folder: str,
+    proved: set[str],
+    tries: trials.Trials,
+    is_changed_alone: bool,
+    results: Results,
 ) -> None:
-    """Tries edits of `more-edits/` for some minutes."""
+    """Tries edits of `more-edits/`: for a minute those of functions that changed, or for some minutes all."""
     by_crate = {
         crate: paths
         for crate, paths in edits_in(folder, OTHERS, results).items()
         if crate in proved
     }
-    for crate, together in trials.sample(f"{folder}/tree", by_crate):
+    chosen = trials.sample(f"{folder}/tree", by_crate, is_changed_alone)
+    for crate, together in chosen:
         tries.add(crate, together, is_listed=False)
     before, began = results.counted_in_all(), time.monotonic()
-    tries.finish(SECONDS_OF_OTHER_EDITS)
-    count = sum(len(paths) for paths in by_crate.values())
+    tries.finish(SECONDS_OF_CHANGED if is_changed_alone else SECONDS_OF_OTHERS)
+    count = sum(len(together) for _, together in chosen)
+    of = "that turn functions which changed" if is_changed_alone else "there are"
     tried = results.counted_in_all() - before
     seconds = time.monotonic() - began
     print(
-        f"gate: tried {tried} of {count} edits of {OTHERS}/ in {seconds:.0f} seconds",
+        f"gate: tried {tried} of {count} edits of {OTHERS}/ {of}, in {seconds:.0f} seconds",
         flush=True,
     )
 
 
-def whole(results: Results) -> None:
-    """The gate."""
+def note(rt: ModuleType, watch: gate_cost.Watch) -> None:
+    """Writes what the provers took."""
+    taken = watch.taken()
+    guesses = {it.name: rt.need(it) for it in rt.crates_of(TOP)}
+    seen = {
+        key: needs.Noted(
+            most // needs.MEGABYTE,
+            guesses[key[0]] // needs.MEGABYTE,
+            round(taken[key]),
+        )
+        for key, most in watch.most.items()
+        if key[0] in guesses
+    }
+    needs.write(seen)
+
+
+def whole(results: Results, is_of_edits: bool = False) -> None:
+    """The gate, or the proofs and other wrong bodies than the listed ones alone."""
     rt = repository.kit()
     watch = gate_cost.Watch(os.getpid())
     watch.start()
+    if not is_of_edits:
+        of_pages(results)
+    with room() as folder:
+        over_a_copy(folder, rt, watch, is_of_edits, results)
+        told = proofs.told(f"{folder}/{PROOFS}")
+    if not is_of_edits:
+        release(results)
+    watch.ended.set()
+    watch.join()
+    note(rt, watch)
+    print(gate_cost.table(watch), told, sep="\n\n", end="", flush=True)
+
+
+def of_pages(results: Results) -> None:
+    """Compares what is generated with the sources."""
     results.run("the generated pages", ["tools/pages.py", "--check"])
     results.run("the links of the pages", ["tools/links.py"])
     results.run("the picture of the layers", ["tools/layers.py", "--check"])
     results.run("the lines of crates.txt", ["tools/edges.py"])
+    results.run("where calls and refusals are shown", ["tools/calls.py"])
+
+
+def over_a_copy(
+    folder: str,
+    rt: ModuleType,
+    watch: gate_cost.Watch,
+    is_of_edits: bool,
+    results: Results,
+) -> None:
+    """Proves all, tries wrong bodies, and runs what was built; or proves all and tries other wrong bodies."""
 
     def tell(tried: edits.Tried, _: bool) -> None:
         is_well = tried.kind in (edits.REFUSED, edits.WEAKLY)
         results.told(edits.label(tried.edit), is_well, tried.text)
 
-    with room() as folder:
-        listed = edits_in(folder, LISTED, results)
-        tries = trials.Trials(rt, folder, watch, tell)
-        try:
-            proved = prove(folder, listed, tries, results)
-            take_built(folder, proved, results)
-            tries.finish()
-            for crate in sorted({*listed} - proved):
-                results.failed(
-                    f"{crate}/{LISTED}", "not tried, since the crate isn't proved"
-                )
-            try_others(folder, proved, tries, results)
-        finally:
-            tries.end()
-        stored_runs(folder, results)
-        results.run(
-            "refused memory", [f"{folder}/tree/tools/failing_memory.py", "--gate"]
-        )
-        quick.over_the_programs(f"{folder}/tree", results)
-    release(results)
-    watch.ended.set()
-    watch.join()
-    print(gate_cost.table(watch), flush=True)
+    listed = {} if is_of_edits else edits_in(folder, LISTED, results)
+    tries = trials.Trials(rt, folder, watch, tell)
+    try:
+        proved = prove(folder, listed, tries, results)
+        take_built(folder, proved, results)
+        tries.finish()
+        for crate in sorted({*listed} - proved):
+            results.failed(
+                f"{crate}/{LISTED}", "not tried, since the crate isn't proved"
+            )
+        try_others(folder, proved, tries, not is_of_edits, results)
+    finally:
+        tries.end()
+    if is_of_edits:
+        return
+    stored_runs(folder, results)
+    results.run("refused memory", [f"{folder}/tree/tools/failing_memory.py", "--gate"])
+    quick.play_rows(f"{folder}/tree", results)
+    quick.over_the_programs(f"{folder}/tree", results)
 
 
 def release(results: Results) -> None:
@@ -223,7 +278,10 @@ def alone(names: list[str], results: Results) -> None:
     if unknown:
         repository.stop(f"crates.txt names no crate {unknown[0]}")
     if not version.startswith("rattle-kit-13b"):
-        results.run(f"rt ci {' '.join(names)}", ["rt", "ci", *names])
+        with tempfile.TemporaryDirectory(prefix="gate-") as folder:
+            words = ["tools/proofs.py", "--told", f"{folder}/{PROOFS}", *names]
+            results.run(f"rt ci {' '.join(names)}", words)
+            print(proofs.told(f"{folder}/{PROOFS}"), end="", flush=True)
         return
     # (the `rt ci` of 13b takes no name)
     for name in names:
@@ -240,6 +298,8 @@ def main(words: list[str]) -> int:
         if words == ["quick"]:
             with room() as folder:
                 quick.run(f"{folder}/tree", results)
+        elif words == ["edits"]:
+            whole(results, is_of_edits=True)
         elif words:
             alone(words, results)
         else:

@@ -6,7 +6,8 @@
 `./test` prints the same table at its end. It looks at /proc twice a second and keeps the last processor time seen of
 each prover that stands below the command, so each check is counted up to half a second short. The crate itself, its
 tests and its wrong bodies (which are tried in folders of their own, `rt-edit-*`) are counted apart; the clock counts the
-time in which any prover of these was at work. The longest chain is that of crates, each above the one before it, whose
+time in which any prover of these was at work. The most memory
+that one of them held is told beside it. The longest chain is that of crates, each above the one before it, whose
 proofs take longest by the clock: with more processors the gate would still take as long. The command's own output goes
 to standard error; the table to standard output.
 """
@@ -15,6 +16,7 @@ from __future__ import annotations
 
 import collections
 import os
+import re
 import subprocess
 import sys
 import threading
@@ -26,6 +28,8 @@ import repository
 TICKS = os.sysconf("SC_CLK_TCK")
 KINDS = ("crate", "tests", "edits")
 SECONDS_BETWEEN = 0.5
+# The memory of what a prover runs is looked at once in so many looks.
+LOOKS_OF_MEMORY = 4
 # A processor counts as idle where no look of so many has seen the chain's provers use it.
 LOOKS = 6
 
@@ -70,6 +74,16 @@ def is_below(number: int, top: int, all_of: dict[int, Process]) -> bool:
     return False
 
 
+def memory_in(number: int, file: str, word: str) -> int:
+    """The bytes that a file of a process in /proc says behind a word, or 0."""
+    try:
+        with open(f"/proc/{number}/{file}", encoding="ascii", errors="replace") as it:
+            found = re.search(rf"^{word}:\s+(\d+) kB$", it.read(), re.M)
+    except OSError:
+        return 0
+    return 1024 * int(found[1]) if found else 0
+
+
 def what(number: int) -> Key | None:
     """The crate and the kind of a prover's run, or None of another process."""
     try:
@@ -95,10 +109,13 @@ class Watch(threading.Thread):
         self.top = top
         self.began = time.time()
         self.clock: dict[Key, float] = collections.defaultdict(float)
+        self.most: dict[Key, int] = collections.defaultdict(int)
         self.ended = threading.Event()
         self._taken: dict[tuple[int, str], tuple[Key, float]] = {}
         self._seen = time.time()
         self._busy: collections.deque[int] = collections.deque(maxlen=LOOKS)
+        self._looks = 0
+        self._below: dict[int, int] = {}
 
     def run(self) -> None:
         """Looks until the end."""
@@ -109,7 +126,7 @@ class Watch(threading.Thread):
         """Takes what /proc shows."""
         all_of = processes()
         now = time.time()
-        working = set()
+        working: dict[int, Key] = {}
         busy = 0
         for number, process in all_of.items():
             # (a number is given again, and a process is rt's own until it becomes a prover)
@@ -119,12 +136,31 @@ class Watch(threading.Thread):
                 key = what(number)
             if key and process.state != "Z":
                 self._taken[run] = key, process.taken
-                working.add(key)
+                working[number] = key
                 busy += process.state == "R" and key[1] != "edits"
-        for key in working:
+        for key in set(working.values()):
             self.clock[key] += now - self._seen
         self._seen = now
         self._busy.append(busy)
+        self.look_at_memory(working, all_of)
+
+    def look_at_memory(
+        self, working: dict[int, Key], all_of: dict[int, Process]
+    ) -> None:
+        """Notes what the provers hold: the most of each by itself, with what it runs (clang, or copies of itself) now and then."""
+        self._looks += 1
+        if self._looks % LOOKS_OF_MEMORY == 1:
+            self._below = collections.defaultdict(int)
+            for number, process in all_of.items():
+                if process.parent in working:
+                    held = memory_in(number, "smaps_rollup", "Pss")
+                    self._below[process.parent] += held
+        for number, key in working.items():
+            # (a prover that another one runs is counted there)
+            if all_of[number].parent not in working:
+                held = memory_in(number, "status", "VmHWM")
+                held += self._below.get(number, 0)
+                self.most[key] = max(self.most[key], held)
 
     def idle(self) -> int:
         """How many processors the provers leave, but for those of wrong bodies."""
@@ -159,13 +195,13 @@ def longest_chain(clock: dict[Key, float]) -> list[tuple[str, float]]:
     return [row for row in longest if row[1] > 0]
 
 
-def row(name: str, by: list[tuple[float, float]]) -> str:
-    """A line of the table: of each kind the processor minutes and the minutes by the clock, if known; and the sum."""
+def row(name: str, by: list[tuple[float, float, int]]) -> str:
+    """A line of the table: of each kind the processor minutes, the minutes by the clock and the memory, if known; and the sum."""
     cells = []
-    for taken, clock in by:
-        told = f" ({clock / 60:.1f})" if clock else ""
+    for taken, clock, most in by:
+        told = f" ({clock / 60:.1f}; {most / 1e9:.1f})" if clock else ""
         cells.append(f"{taken / 60:.1f}{told}" if taken else "")
-    whole = sum(taken for taken, _ in by) / 60
+    whole = sum(taken for taken, _, _ in by) / 60
     return f"| {name} | {' | '.join(cells)} | {whole:.1f} |"
 
 
@@ -178,9 +214,12 @@ def table(watch: Watch) -> str:
         "|---|---|---|---|---|",
     ]
     for name in sorted(names, key=lambda it: -sum(taken[it, kind] for kind in KINDS)):
-        by = [(taken[name, kind], clock[name, kind]) for kind in KINDS]
+        by = [
+            (taken[name, kind], clock[name, kind], watch.most[name, kind])
+            for kind in KINDS
+        ]
         lines.append(row(f"`{name}`", by))
-    sums = [(sum(taken[name, kind] for name in names), 0.0) for kind in KINDS]
+    sums = [(sum(taken[name, kind] for name in names), 0.0, 0) for kind in KINDS]
     lines.append(row("all", sums))
     chain = longest_chain(clock)
     told = ", ".join(f"{name} {minutes:.1f}" for name, minutes in chain)
@@ -192,7 +231,7 @@ def table(watch: Watch) -> str:
         [
             *lines,
             "",
-            "Processor minutes, and in brackets minutes by the clock.",
+            "Processor minutes, and in brackets minutes by the clock, and gigabytes.",
             f"Longest chain by the clock, {length:.1f} minutes: {told or 'none'}.",
             f"{minutes:.1f} minutes on {processors} processors; {whole:.1f} processor "
             "minutes in all, with programs and tools.",

@@ -3,14 +3,17 @@
 Made in a copy of the repository, for `rt try`: each crate is a module of the crate that
 is made, `crate::` in its sources becomes `crate::NAME::`, and what it stands on is what
 its crates stand on. Tests are then named `NAME::MODULE::TEST`. Of programs the one runs
-by whose name the made one is called; by another name it goes on until it is ended, so
-that `rt try`, which removes what it has made, leaves time to link it.
+by whose name the made one is called, or which is one of that name, too; by another name
+it goes on until it is ended, so that `rt try`, which removes what it has made, leaves
+time to link it.
 """
 
 from __future__ import annotations
 
 import os
 import re
+
+import released
 
 ATTRIBUTE = re.compile(r"^#!\[.*\]\n", re.M)
 
@@ -36,7 +39,7 @@ END = """    for _ in 0..u64::MAX {}
 }
 """
 CASE = """    if is_called(&rt, "/{0}") {{
-        return {0}::main(rt);
+        return {1}::main(rt);
     }}
 """
 
@@ -99,7 +102,11 @@ def programs(tree: str, name: str, crates: list[str]) -> None:
     for crate in crates:
         heads.update(dict.fromkeys(as_module(tree, name, crate, "main.rt")))
     modules = "".join(f"mod {crate};\n" for crate in crates)
-    cases = "".join(CASE.format(crate) for crate in crates)
+    called = {crate: crate for crate in crates}
+    for other, crate in released.NAMES.items():
+        if crate in crates:
+            called[other.replace("-", "_")] = crate
+    cases = "".join(CASE.format(*it) for it in called.items())
     with open(f"{tree}/crates/{name}/src/main.rt", "w", encoding="utf-8") as it:
         head = f"//! Several programs.\n{''.join(heads)}\n{modules}"
         it.write(f"{head}{MAIN}{cases}{END}")

@@ -21,13 +21,14 @@ from dataclasses import dataclass, field
 from types import ModuleType
 
 import edits
+import needs
 import repository
 from gate_cost import Watch
 
 # What is left free beside a trial while crates are proved.
 SPARE_MEMORY = 2_000_000_000
 # How long a check over built libraries is thought to take, until one of its crate has ended.
-SECONDS_OF_A_CHECK = 60.0
+SECONDS_OF_A_CHECK = 20.0
 # How long after the time given an edit that a first check left open may still be tried by a check of its own.
 SECONDS_MORE = 60.0
 LAST = 'echo 1000 >/proc/self/oom_score_adj; exec nice -n 19 "$@"'
@@ -64,6 +65,7 @@ class Trials:
         self.is_proving = True
         self.deadline: float | None = None
         self.seconds: dict[str, float] = {}
+        self.noted = needs.read()
         self._waiting: list[Job] = []
         self._running: list[Job] = []
         self._lock = threading.RLock()
@@ -124,7 +126,8 @@ class Trials:
         if not self._has_time(job):
             return False
         folder = f"{self.room}/tree/crates/{job.crate}"
-        need = self.rt.need(self.rt.Crate(folder, f"{self.room}/tree", {}))
+        guess = self.rt.need(self.rt.Crate(folder, f"{self.room}/tree", {}))
+        need = needs.planned(self.noted, (job.crate, needs.EDITS), guess)
         spare = SPARE_MEMORY if self.is_proving else 0
         return self.rt.free() > need + spare or not (self._running or self.is_proving)
 
@@ -142,14 +145,12 @@ class Trials:
         """Tries the edits of a job, and tells how each ended."""
         began = time.monotonic()
         kept = f"{self.room}/kept/{job.crate}"
-        sure = ["--sure"] if job.is_listed else []
         words = [
             sys.executable,
             edits.__file__,
-            *sure,
             f"{self.room}/tree",
             job.crate,
-            kept,
+            edits.NOTHING if job.is_listed else kept,
             *job.edits,
         ]
         command = [*self.rt.rtlib.guarded(), "sh", "-c", LAST, "", *words]
@@ -169,7 +170,10 @@ class Trials:
             tried = edits.Tried(*json.loads(line))
         except (ValueError, TypeError):
             return line.strip()
-        if tried.kind == edits.OPEN:
+        if tried.kind == edits.TOLD:
+            if job.is_listed:
+                print(f"gate: {tried.text}", flush=True)
+        elif tried.kind == edits.OPEN:
             job.open.add(tried.edit)
         else:
             left.discard(tried.edit)
@@ -237,9 +241,11 @@ def sum_of(paths: Iterable[str]) -> bytes:
     return whole.digest()
 
 
-def sample(top: str, by_crate: dict[str, list[str]]) -> list[tuple[str, list[str]]]:
-    """Rounds of edits, by crate, in the order in which they are tried: first those of functions that changed, then those of
-    files that changed, then the others, in an order that is drawn from a sum of all crates' sources.
+def sample(
+    top: str, by_crate: dict[str, list[str]], is_changed_alone: bool
+) -> list[tuple[str, list[str]]]:
+    """Rounds of edits, by crate, in the order in which they are tried: first those of functions that changed, then, unless these
+    alone are asked for, those of files that changed, and the others, in an order that is drawn from a sum of all crates' sources.
     """
     changed = changed_lines()
     drawn = sum_of(
@@ -264,8 +270,9 @@ def sample(top: str, by_crate: dict[str, list[str]]) -> list[tuple[str, list[str
             )
             number = hashlib.sha256(drawn + edits.label(edit).encode()).digest()
             ranks[edit] = (0 if is_changed else 1 if near else 2), number
+        wanted = [it for it in paths if not is_changed_alone or ranks[it][0] == 0]
         for together in edits.rounds_of(
-            sorted(paths, key=ranks.__getitem__), f"{top}/crates/{crate}"
+            sorted(wanted, key=ranks.__getitem__), f"{top}/crates/{crate}"
         ):
             found.append((min(ranks[it] for it in together), crate, together))
     return [(crate, together) for _, crate, together in sorted(found)]
