@@ -4,7 +4,7 @@
     tools/programs_test.py [FOLDER]
 
 FOLDER has the programs as a release names them (`ssa-server`); without FOLDER they are crates/NAME/out/NAME, as `rt run`
-and the gate build them. What calls answer is tested in the crates of tests.
+and the gate build them, and `ssa-pipe` is the gate's link beside `ssa_replay`. What calls answer are rows of tests/.
 """
 
 import json
@@ -22,7 +22,7 @@ from collections.abc import Iterator
 from contextlib import contextmanager
 from typing import Any
 
-from running import TOP
+import released
 
 WIDGETS = "/apis/demo.example/v1/namespaces/default/widgets"
 LIST = f"GET {WIDGETS} HTTP/1.1\r\nHost: localhost\r\n\r\n"
@@ -45,18 +45,17 @@ def types_text(list_type: str = "set", **more: object) -> str:
 
 def path_of(name: str) -> str:
     """The path of a program."""
-    if folder:
-        return f"{folder}/{name.replace('_', '-')}"
-    return f"{TOP}/crates/{name}/out/{name}"
+    name = name.replace("_", "-")
+    return f"{folder}/{name}" if folder else released.built_file(name)
 
 
 def run(name: str, *words: str, **how: Any) -> subprocess.CompletedProcess[str]:
     """Runs a program to its end."""
     how.setdefault("stdout", subprocess.PIPE)
     how.setdefault("timeout", SECONDS)
+    how.setdefault("stdin", subprocess.DEVNULL)
     return subprocess.run(
         [path_of(name), *words],
-        stdin=subprocess.DEVNULL,
         stderr=subprocess.PIPE,
         text=True,
         check=False,
@@ -211,6 +210,40 @@ class Ends(InRoom):
         self.ends(f"{call} {self.types} --type {TYPE} --page 0", 2, page)
         closed = f"port {port}: Connection refused (os error 111)"
         self.ends(f"{call} {self.types} --type {TYPE}", 6, closed)
+
+    def test_faults_of_a_pipe_in_order(self) -> None:
+        """Words, the types file, the page; by its other name the program wants a script."""
+        none = f"{self.room}/none"
+        absent = f"types file {none}: No such file or directory (os error 2)"
+        number = "--page: a whole number from 0 to 4294967295"
+        self.ends(f"ssa_pipe --types {none} --page x", 2, number)
+        self.ends(f"ssa_pipe --types {none} --page 0", 3, absent)
+        page = "--page: a page has 1 to 500 objects"
+        self.ends(f"ssa_pipe --types {self.types} --page 0", 2, page)
+        self.ends(f"ssa_pipe --types {self.types}", 0, "")
+        for name, status in (("ssa_pipe", 0), ("ssa_replay", 2)):
+            self.assertEqual(run(name, "--types", self.types).returncode, status)
+            version = run(name, "--version").stdout
+            self.assertEqual(version.split()[0], name.replace("_", "-"))
+
+    def test_faults_of_words_and_first_objects(self) -> None:
+        """A word that isn't one of the program's, one that is no text, a file that isn't there."""
+        done = run("ssa_server", "--nothing")
+        self.assertEqual((done.returncode, done.stdout), (2, ""))
+        self.assertIn("unexpected argument '--nothing'", done.stderr)
+        self.ends("ssa_server --types \udcff", 2, "an argument is not UTF-8")
+        absent = f"{self.room}/none"
+        said = f"objects file {absent}: No such file or directory (os error 2)"
+        self.ends(f"ssa_server --types {self.types} --objects {absent}", 3, said)
+
+    def test_an_input_that_fails(self) -> None:
+        """A folder can't be read."""
+        folder = os.open(self.room, os.O_RDONLY)
+        self.addCleanup(os.close, folder)
+        words = ("--types", self.types, "--type", TYPE)
+        done = run("ssa_pipe", *words, stdin=folder)
+        said = "standard input: Is a directory (os error 21)\n"
+        self.assertEqual((done.returncode, done.stderr), (3, said))
 
     def test_full_output(self) -> None:
         """A server can't tell its port, a mirror no line."""

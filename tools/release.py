@@ -47,10 +47,15 @@ DAY = 315532800
 Files = dict[str, tuple[bytes, int]]
 
 
-def said(*words: str) -> str:
-    """What a command prints."""
+def said(*words: str, executable: str | None = None) -> str:
+    """What a command prints, or a program that is called by the command's name."""
     return subprocess.run(
-        words, cwd=TOP, stdout=subprocess.PIPE, text=True, check=True
+        words,
+        executable=executable,
+        cwd=TOP,
+        stdout=subprocess.PIPE,
+        text=True,
+        check=True,
     ).stdout.strip()
 
 
@@ -146,13 +151,18 @@ def filters(size: int) -> list[dict[str, int]]:
     ]
 
 
-def archive_of(folder: str, files: Files) -> bytes:
-    """The archive of these files in this order, in one folder."""
+def archive_of(folder: str, files: Files, links: dict[str, str]) -> bytes:
+    """The archive of these files in this order, in one folder; those that are hard links are named with their files."""
     whole = io.BytesIO()
     with tarfile.open(fileobj=whole, mode="w", format=tarfile.USTAR_FORMAT) as it:
         for path, (data, mode) in files.items():
             member = tarfile.TarInfo(f"{folder}/{path}")
-            member.size, member.mode, member.mtime = len(data), mode, DAY
+            member.mode, member.mtime = mode, DAY
+            if path in links:
+                member.type = tarfile.LNKTYPE
+                member.linkname = f"{folder}/{links[path]}"
+            else:
+                member.size = len(data)
             it.addfile(member, io.BytesIO(data))
     data = whole.getvalue()
     return lzma.compress(data, format=lzma.FORMAT_XZ, filters=filters(len(data)))
@@ -164,10 +174,16 @@ def release_of(programs: dict[str, bytes], its: Manifest) -> tuple[Manifest, byt
         launcher = it.read()
     files: Files = {"MANIFEST": (its.text().encode(), 0o644)}
     files |= {name: (launcher, 0o755) for name in sorted(programs)}
-    # The server's program comes first, so that its start needn't unpack the others.
-    for name in sorted(programs, key=lambda name: (name not in FIRST, name)):
+    # The server's program comes first, so that its start needn't unpack the others. The names of one program follow each
+    # other, and all but the first of them are links.
+    names = {data: name for name, data in sorted(programs.items(), reverse=True)}
+    first = {name: names[data] for name, data in programs.items()}
+    links: dict[str, str] = {}
+    for name in sorted(programs, key=lambda it: (it not in FIRST, first[it], it)):
         files[f"programs/{name}"] = programs[name], 0o755
-    data = archive_of(f"nazhuvem-{its.version}", files | pages())
+        if first[name] != name:
+            links[f"programs/{name}"] = f"programs/{first[name]}"
+    data = archive_of(f"nazhuvem-{its.version}", files | pages(), links)
     name = f"nazhuvem-{its.version}-x86_64-linux.tar.xz"
     return its._replace(archive=(name, released.sum_of(data))), data
 
@@ -177,7 +193,7 @@ def stop_on_stale(programs: dict[str, bytes], crates: dict[str, str]) -> None:
     for name, crate in crates.items():
         if name not in programs:
             sys.exit(f"release: {name} is not built; ./test builds all programs")
-        its = said(built_file(crate), "--version")
+        its = said(name, "--version", executable=built_file(crate))
         if its != f"{name} {version()}":
             sys.exit(
                 f"release: {os.path.relpath(built_file(crate), TOP)} is {its}, and not of version {version()}"

@@ -22,6 +22,8 @@ import typing
 TOP = os.path.dirname(os.path.dirname(os.path.realpath(__file__)))
 PLACE = f"{TOP}/release"
 PARTS = ("src", "specs", "proofs")
+# The programs that another one is, too, where it is called by their names, each with the crate of that one.
+NAMES = {"ssa-pipe": "ssa_replay"}
 NOTHING, NEEDS_KIT = 2, 3
 
 
@@ -90,12 +92,19 @@ def lines_of_crates() -> dict[str, str]:
 
 
 def programs(lines: dict[str, str]) -> dict[str, str]:
-    """The crate of each program, by the program's name."""
-    return {
-        name.replace("_", "-"): name
-        for name in lines
-        if os.path.isfile(f"{TOP}/crates/{name}/src/main.rt")
-    }
+    """The crate of each program, by the program's name; a program that another one is, too, stands behind that one."""
+    found: dict[str, str] = {}
+    for crate in lines:
+        if os.path.isfile(f"{TOP}/crates/{crate}/src/main.rt"):
+            found[crate.replace("_", "-")] = crate
+            found |= {name: it for name, it in NAMES.items() if it == crate}
+    return found
+
+
+def built_file(name: str) -> str:
+    """Where a program stands that was built here."""
+    file = name.replace("-", "_")
+    return f"{TOP}/crates/{NAMES.get(name, file)}/out/{file}"
 
 
 def crates_below(lines: dict[str, str]) -> list[str]:
@@ -147,13 +156,20 @@ def stop(why: str) -> typing.NoReturn:
 
 
 def members(archive: str) -> typing.Iterator[tuple[str, bytes, int]]:
-    """The files of an archive in order: the path below its one folder, the contents, the mode."""
+    """The files of an archive in order: the path below its one folder, the contents, the mode. A hard link stands behind
+    its file, and is another file of the same contents."""
+    last, data = "", b""
     with tarfile.open(archive, "r|xz") as it:
         for member in it:
             if member.isfile():
                 stream = it.extractfile(member)
                 assert stream is not None
-                yield member.name.partition("/")[2], stream.read(), member.mode
+                last, data = member.name, stream.read()
+            elif not member.islnk():
+                continue
+            elif member.linkname != last:
+                raise tarfile.TarError(f"{member.name} stands not behind its file")
+            yield member.name.partition("/")[2], data, member.mode
 
 
 def write_whole(path: str, data: bytes, mode: int) -> None:

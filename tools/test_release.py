@@ -8,6 +8,7 @@ from __future__ import annotations
 import contextlib
 import io
 import os
+import tarfile
 import tempfile
 import typing
 import unittest
@@ -49,7 +50,11 @@ class Planted(unittest.TestCase):
             ("other", "lib"),
         ):
             self.write(f"crates/{crate}/src/{file}.rt", crate)
-        sums = {name: released.sum_of(data) for name, data in PROGRAMS.items()}
+        self.release_these(PROGRAMS)
+
+    def release_these(self, programs: dict[str, bytes]) -> None:
+        """Releases these programs."""
+        sums = {name: released.sum_of(data) for name, data in programs.items()}
         its = Manifest(
             "1.2.3",
             KIT,
@@ -58,7 +63,7 @@ class Planted(unittest.TestCase):
             sums,
             None,
         )
-        self.release, data = release.release_of(PROGRAMS, its)
+        self.release, data = release.release_of(programs, its)
         self.write_bytes(self.archive(), data)
 
     def entered(self, context: typing.ContextManager[typing.Any]) -> typing.Any:
@@ -177,6 +182,53 @@ class Planted(unittest.TestCase):
     def test_an_archive_that_is_not_there_is_told(self) -> None:
         os.unlink(f"{self.top}/{self.archive()}")
         self.assertEqual(self.faults(), [f"there is no {self.archive()}"])
+
+    def test_a_program_of_two_names(self) -> None:
+        """It stands once in the archive, and is unpacked by both."""
+        self.built["ssa-pipe"] = PROGRAMS["ssa-replay"]
+        self.release_these(self.built)
+        self.assertEqual(self.faults(), [])
+        with tarfile.open(f"{self.top}/{self.archive()}") as it:
+            names = [name for name in it.getnames() if "/programs/" in name]
+            it.extractall(f"{self.top}/whole")
+        at = "nazhuvem-1.2.3/programs"
+        self.assertEqual(
+            names, [f"{at}/ssa-server", f"{at}/ssa-pipe", f"{at}/ssa-replay"]
+        )
+        both = [f"{self.top}/whole/{at}/{name}" for name in ("ssa-pipe", "ssa-replay")]
+        self.assertTrue(os.path.samefile(*both))
+        for name in ("ssa-replay", "ssa-pipe"):
+            folder = released.unpacked(self.release, [name])
+            with open(f"{folder}/programs/{name}", "rb") as program:
+                self.assertEqual(program.read(), b"plays scripts")
+            self.assertTrue(os.access(f"{folder}/programs/{name}", os.X_OK))
+            self.assertTrue(os.path.exists(f"{folder}/{name}"))
+
+    def test_two_names_of_several_programs(self) -> None:
+        """What was built by each name is compared with what was released by it."""
+        self.built["ssa-pipe"] = b"answers lines"
+        self.release_these(self.built)
+        self.assertEqual(self.faults(), [])
+        self.built["ssa-pipe"] = PROGRAMS["ssa-replay"]
+        self.assertEqual(
+            self.faults(),
+            ["ssa-pipe built here is another program than the released one"],
+        )
+
+    def test_a_link_that_stands_not_behind_its_file_is_told(self) -> None:
+        files = {name: (b"", 0o644) for name in ("programs/a", "page", "programs/b")}
+        data = release.archive_of("it", files, {"programs/b": "programs/a"})
+        self.write_bytes("it.tar.xz", data)
+        with self.assertRaisesRegex(tarfile.TarError, "it/programs/b stands not"):
+            list(released.members(f"{self.top}/it.tar.xz"))
+
+    def test_where_a_program_of_two_names_is_built(self) -> None:
+        crates = released.programs(released.lines_of_crates())
+        wanted = {"ssa-replay": "ssa_replay", "ssa-pipe": "ssa_replay"}
+        self.assertEqual(crates, {**wanted, "ssa-server": "ssa_server"})
+        out = f"{self.top}/crates/ssa_replay/out"
+        self.assertEqual(released.built_file("ssa-pipe"), f"{out}/ssa_pipe")
+        self.assertEqual(released.built_file("ssa-replay"), f"{out}/ssa_replay")
 
     def test_a_program_is_unpacked_as_the_manifest_has_it(self) -> None:
         folder = released.unpacked(self.release, ["ssa-server"])

@@ -31,6 +31,7 @@ def of_the_files(results: Results) -> None:
     results.run("the generated pages", ["tools/pages.py", "--check"])
     results.run("the links of the pages", ["tools/links.py"])
     results.run("the picture of the layers", ["tools/layers.py", "--check"])
+    results.run("where calls and refusals are shown", ["tools/calls.py"])
     with tempfile.TemporaryDirectory() as room:
         paths = (
             it for it in repository.files() if it.startswith(("bench/", "crates/"))
@@ -41,11 +42,12 @@ def of_the_files(results: Results) -> None:
 
 def of_the_programs(folder: str, results: Results) -> None:
     """What is held of the programs of a folder."""
-    crates = released.programs(released.lines_of_crates())
-    for name, crate in crates.items():
-        if os.path.exists(f"{folder}/{name}"):
-            quick.stored_run(crate, f"{folder}/{name}", TOP, results)
+    for crate in filter(repository.is_program, repository.crates()):
+        program = f"{folder}/{crate.replace('_', '-')}"
+        if os.path.exists(program):
+            quick.stored_run(crate, program, TOP, results)
     os.environ["NAZHUVEM_BIN"] = folder
+    quick.play_rows(TOP, results, folder)
     quick.over_the_programs(TOP, results, folder)
 
 

@@ -90,7 +90,14 @@ fn piped(
         answered: &answered,
     };
     let mut reader = BufReader::new(alloc, asking)?;
-    let ended = pipe(alloc, types(alloc)?, options, &mut reader, &mut answering);
+    let ended = pipe(
+        alloc,
+        types(alloc)?,
+        options,
+        1,
+        &mut reader,
+        &mut answering,
+    );
     Ok((ended, answering.taken))
 }
 

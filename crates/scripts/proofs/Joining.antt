@@ -1,17 +1,22 @@
 -- What the answers to lines say of each connection, joined.
 use Rattle.std.proofs.Common.{◌≡◌, ◌∙◌, ℕ, suc, Bool, true, false, cond, refl, sym, ap, ap₂, subst, inl, inr, List, [], ◌∷◌, ◌++◌, map, append_assoc, append-nil}
 use Rattle.std.specs.Prelude.{◌⊎◌, is_none}
+use Rattle.std.specs.FinMap as fin
 use Rattle.std.specs.List.{flat_map}
 use Rattle.std.specs.Option.{option_to_list}
 use Rattle.std.specs.Ordering.{eq_by_cmp, nat_cmp}
 use Rattle.std.proofs.lemmas.Grind.{flat_map-append}
 use Rattle.httpedge.specs.Connections.{written_on}
+use Rattle.indexer.specs.Objects.{Stored}
+use Rattle.reflector.specs.Client.{kept}
+use Rattle.world_laws.specs.Moves.{next_move}
 use Rattle.world_laws.specs.Reports as laws
 use Rattle.world_laws.specs.Tasks.{Task}
 use Rattle.world_laws.specs.World.{Steps, World, WorldEvent}
 use Rattle.world.specs.Stepping.{added, ended_since, joined_on, opened_by, refusal_of}
 use Rattle.scripts.specs.Script.{IsEventLine}
-use Rattle.scripts.specs.Piped.{Answered, Converses, IsBad, Joins, Part, ended, event_parts, last_part, opened, printed_on, report_part, written_part}
+use Rattle.scripts.specs.Asking.{Question, asks_next, asks_objects}
+use Rattle.scripts.specs.Piped.{Answered, Converses, IsBad, Joins, Part, asked_parts, done, ended, holds, moves, event_parts, last_part, opened, printed_on, report_part, written_part}
 
 -- ---- the parts of an event
 
@@ -48,6 +53,25 @@ event_joined id task n w e v why =
     (flat_map-append (printed_on id) x (r ++ l) ∙ ap₂ (λ (p q : List ℕ). p ++ q) (none_ended id (ended_since w.hub v.hub))
     (flat_map-append (printed_on id) r l ∙ ap₂ (λ (p q : List ℕ). p ++ q) (none_reported id task.settings.label (laws.reports_after n w v)) (none_last id n (is_none (refusal_of task w e)) why))))
     ∙ append-nil (joined_on id (added w.hub v.hub))
+
+-- ---- the parts of what is asked
+
+none_moved : (id : ℕ) (es : List WorldEvent) → flat_map (printed_on id) (map moves es) ≡ []
+none_moved id [] = refl
+none_moved id (e ∷ es) = none_moved id es
+
+none_held : (id : ℕ) (os : List Stored) → flat_map (printed_on id) (map holds os) ≡ []
+none_held id [] = refl
+none_held id (o ∷ os) = none_held id os
+
+before_end : (id n : ℕ) (parts : List Part) → flat_map (printed_on id) parts ≡ [] → flat_map (printed_on id) (parts ++ done n ∷ []) ≡ []
+before_end id n parts none = flat_map-append (printed_on id) parts (done n ∷ []) ∙ ap (λ (xs : List ℕ). xs ++ flat_map (printed_on id) (done n ∷ [])) none
+
+none_asked : (id : ℕ) (question : Question) (n : ℕ) (w : World) → flat_map (printed_on id) (asked_parts question n w) ≡ []
+none_asked id asks_next n w = before_end id n (map moves (option_to_list (next_move w))) (none_moved id (option_to_list (next_move w)))
+none_asked id asks_objects n w =
+    let objects : List Stored = map (λ e. e.1) (fin.entries (kept w.client.cache)) in
+    before_end id n (map holds objects) (none_held id objects)
 
 -- ---- one line after another
 
@@ -87,7 +111,9 @@ one_joined law task n k w mid line lines first rest v (inl ignores) more =
     unmoved task n k w mid line lines first rest v (inl ignores.empty) ignores.count ignores.same (λ id. ap (flat_map (printed_on id)) ignores.silent) more
 one_joined law task n k w mid line lines first rest v (inr (inl rejects)) more =
     unmoved task n k w mid line lines first rest v (inr rejects.is_bad) rejects.count rejects.same (λ id. ap (flat_map (printed_on id)) rejects.emitted) more
-one_joined law task n k w mid line lines first rest v (inr (inr takes)) more =
+one_joined law task n k w mid line lines first rest v (inr (inr (inl asks))) more =
+    unmoved task n k w mid line lines first rest v (inr asks.is_bad) asks.count asks.same (λ id. ap (flat_map (printed_on id)) asks.emitted ∙ none_asked id asks.question n w) more
+one_joined law task n k w mid line lines first rest v (inr (inr (inr takes))) more =
     moved law task n k w mid line lines first rest v takes.event takes.why takes.says takes.steps takes.emitted takes.count more
 
 pub all_joined : StepsJoin → (task : Task) (n : ℕ) (w : World) (lines : List (List ℕ)) (parts : List Part) (m : ℕ) (v : World) → Converses task n w lines parts m v → Joins task n w lines parts v

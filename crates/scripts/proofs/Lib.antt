@@ -5,4 +5,5 @@ mod OutputLemmas
 mod PipeArguments
 mod PlayerArguments
 mod Pushed
+mod Questions
 mod ScriptLemmas

@@ -1,4 +1,6 @@
 pub mod Asked
+pub mod Asking
+pub mod AskedTexts
 pub mod Output
 pub mod Parts
 pub mod Piped

@@ -11,14 +11,17 @@ use Rattle.hex.specs.Hex.{encode_lower}
 use Rattle.serde_json.specs.Data.{object, string}
 use Rattle.serde_json.specs.Written.{compact_text}
 use Rattle.httpedge.specs.Connections.{written_on}
+use Rattle.indexer.specs.Objects.{Stored}
 use Rattle.reflector.specs.Client.{kept}
 use Rattle.api_types.specs.TypesFile.{ServedShape}
 use Rattle.summary.specs.Apply.{count_members}
 use Rattle.summary.specs.Counts.{counts_of}
 use Rattle.summary.specs.Summary.{counts_in}
+use Rattle.world_laws.specs.Moves.{next_move}
 use Rattle.world_laws.specs.Reports as laws
 use Rattle.world_laws.specs.Tasks.{IsTask, RunSettings, Task}
-use Rattle.world_laws.specs.World.{Steps, World, WorldEvent, start}
+use Rattle.world_laws.specs.World.{Steps, World, WorldEvent}
+use Rattle.world.specs.Starting.{start_at}
 use Rattle.world.specs.Views.{reply_seen}
 use Rattle.world.specs.Represents.{WorldRepresents}
 use Rattle.world.specs.Stepping.{added, ended_since, opened_by, refusal_of}
@@ -26,6 +29,8 @@ use Rattle.world.specs.declared.refusal.Refusal as refusals
 use Rattle.world.specs.declared.step.Step.{Step}
 use Rattle.world.specs.declared.trace.Report as shown
 use Rattle.world.specs.declared.world.World as worlds
+use Rattle.scripts.specs.Asking.{Question, asks_next, asks_objects, asked_on}
+use Rattle.scripts.specs.AskedTexts.{move_text, object_text}
 use Rattle.scripts.specs.Plays.{namespace_keys}
 use Rattle.scripts.specs.Script.{IsEventLine}
 use Rattle.programs.specs.declared.run_fault.RunFault.TheVariants as run
@@ -70,13 +75,15 @@ bad_text n why = codes "{\"done\":" ++ (decimal n ++ (codes ",\"bad\":" ++ (quot
 
 -- ---- the parts of an answer
 
--- a connection that opened; what was written on one; one that ended; a report; and the end of the answer: the event is done, is refused, or the
--- line is no event's
+-- a connection that opened; what was written on one; one that ended; a report; a move and an object, of which a line asks; and the end of the
+-- answer: the event is done, is refused, or the line is no event's
 pub data Part : Type 0 where
   opened : ℕ → Part
   written : ℕ → List ℕ → Part
   ended : ℕ → Part
   reported : ℕ → ℕ → ℕ → List (List ℕ × ℕ) → Part
+  moves : WorldEvent → Part
+  holds : Stored → Part
   done : ℕ → Part
   refused : ℕ → List ℕ → Part
   bad : ℕ → List ℕ → Part
@@ -87,6 +94,8 @@ part_text (opened id) = number_text (codes "opened") id
 part_text (written id bytes) = written_text id bytes
 part_text (ended id) = number_text (codes "ended") id
 part_text (reported event revision objects counts) = report_words event revision objects counts
+part_text (moves e) = move_text e
+part_text (holds o) = object_text o.text
 part_text (done n) = number_text (codes "done") n
 part_text (refused n why) = refused_text n why
 part_text (bad n why) = bad_text n why
@@ -110,6 +119,19 @@ event_parts task n w e v why =
     map opened (option_to_list (opened_by task w e))
     ++ (map written_part (added w.hub v.hub) ++ (map ended (ended_since w.hub v.hub) ++ (map (report_part task.settings.label) (laws.reports_after n w v) ++ last_part n (is_none (refusal_of task w e)) why ∷ [])))
 
+-- to what is asked behind n events
+abbrev pub asked_parts : Question → ℕ → World → List Part
+asked_parts asks_next n w = map moves (option_to_list (next_move w)) ++ done n ∷ []
+asked_parts asks_objects n w = map holds (map (λ e. e.1) (fin.entries (kept w.client.cache))) ++ done n ∷ []
+
+-- to a line of no event; why is what is told of it if it asks nothing
+abbrev pub other_by : Option Question → ℕ → World → List ℕ → List Part
+other_by (Some question) n w why = asked_parts question n w
+other_by None n w why = bad n why ∷ []
+
+abbrev pub other_parts : ℕ → World → List ℕ → List ℕ → List Part
+other_parts n w line why = other_by (asked_on line) n w why
+
 -- ---- the answer to a line
 
 -- the line is a text of no event, or no text
@@ -123,12 +145,23 @@ pub record Ignores (n : ℕ) (w : World) (line : List ℕ) (parts : List Part) (
   pub count : m ≡ n
   pub same : v ≡ w
 
--- a line that is no event's changes nothing
+-- a line that is no event's and asks nothing changes nothing
 pub record Rejects (n : ℕ) (w : World) (line : List ℕ) (parts : List Part) (m : ℕ) (v : World) : Type 0 where
   pub filled : line ≢ []
   pub is_bad : IsBad line
+  pub unasked : asked_on line ≡ None
   pub why : List ℕ
   pub emitted : parts ≡ bad n why ∷ []
+  pub count : m ≡ n
+  pub same : v ≡ w
+
+-- nor does one that asks
+pub record Asks (n : ℕ) (w : World) (line : List ℕ) (parts : List Part) (m : ℕ) (v : World) : Type 0 where
+  pub filled : line ≢ []
+  pub is_bad : IsBad line
+  pub question : Question
+  pub asked : asked_on line ≡ Some question
+  pub emitted : parts ≡ asked_parts question n w
   pub count : m ≡ n
   pub same : v ≡ w
 
@@ -143,7 +176,7 @@ pub record Takes (task : Task) (n : ℕ) (w : World) (line : List ℕ) (parts : 
 
 -- the answer to a line before which there were n events: its parts, how many events there are then, and where they led
 abbrev pub Answered : Task → ℕ → World → List ℕ → List Part → ℕ → World → Type 0
-Answered task n w line parts m v = Ignores n w line parts m v ⊎ (Rejects n w line parts m v ⊎ Takes task n w line parts m v)
+Answered task n w line parts m v = Ignores n w line parts m v ⊎ (Rejects n w line parts m v ⊎ (Asks n w line parts m v ⊎ Takes task n w line parts m v))
 
 -- ---- all lines
 
@@ -180,15 +213,15 @@ pub record IsAnsweredPrefix (task : Task) (w : World) (received text : List ℕ)
   pub split : received ≡ answered ++ unanswered
   pub answers : IsAnswered task w answered (text ++ more) count end
 
--- the lines are answered from the start of a run with these settings
-abbrev pub PipesAsked : List ServedShape → Option RunSettings → List ℕ → List ℕ → Type 0
-PipesAsked types asked received text =
-    (settings : RunSettings) × (task : Task) × (m : ℕ) × (v : World) × (asked ≡ Some settings) × IsTask types task × (task.settings ≡ settings) × IsAnswered task (start types) received text m v
+-- the lines are answered from the start of a run at this revision with these settings
+abbrev pub PipesAsked : List ServedShape → Option RunSettings → ℕ → List ℕ → List ℕ → Type 0
+PipesAsked types asked revision received text =
+    (settings : RunSettings) × (task : Task) × (m : ℕ) × (v : World) × (asked ≡ Some settings) × IsTask types task × (task.settings ≡ settings) × IsAnswered task (start_at revision types) received text m v
 
 -- nothing is read or written, or a prefix of that
-abbrev pub PipesPrefixAsked : List ServedShape → Option RunSettings → List ℕ → List ℕ → Type 0
-PipesPrefixAsked types asked received text =
-    ((received ≡ []) × (text ≡ [])) ⊎ ((settings : RunSettings) × (task : Task) × (asked ≡ Some settings) × IsTask types task × (task.settings ≡ settings) × IsAnsweredPrefix task (start types) received text)
+abbrev pub PipesPrefixAsked : List ServedShape → Option RunSettings → ℕ → List ℕ → List ℕ → Type 0
+PipesPrefixAsked types asked revision received text =
+    ((received ≡ []) × (text ≡ [])) ⊎ ((settings : RunSettings) × (task : Task) × (asked ≡ Some settings) × IsTask types task × (task.settings ≡ settings) × IsAnsweredPrefix task (start_at revision types) received text)
 
 -- ---- the run of the events
 
@@ -204,6 +237,8 @@ printed_on id (written k bytes) = if eq_by_cmp nat_cmp id k then bytes else []
 printed_on id (opened k) = []
 printed_on id (ended k) = []
 printed_on id (reported event revision objects counts) = []
+printed_on id (moves e) = []
+printed_on id (holds o) = []
 printed_on id (done n) = []
 printed_on id (refused n why) = []
 printed_on id (bad n why) = []

@@ -4,11 +4,13 @@ ghost use Rattle.std.specs.List.{flat_map};
 ghost use Rattle.world_laws.specs.Tasks.{Task};
 ghost use Rattle.world_laws.specs.World as worlds;
 ghost use Rattle.world.specs.Views.{event_seen};
-ghost use Rattle.scripts.specs.Piped.{Answered, IsBad, Part, Represents, Takes, part_text};
+ghost use Rattle.scripts.specs.Asking.{question_seen};
+ghost use Rattle.scripts.specs.Piped.{Answered, IsBad, Part, Represents, Takes, asked_parts, other_parts, part_text};
 ghost use Rattle.scripts.specs.Plays.{Answers};
 ghost use Rattle.scripts.specs.Script.{IsEventLine};
 
-use crate::answer_text::{bad_line, step_text};
+use crate::answer_text::{bad_line, next_text, objects_text, step_text};
+use crate::asking::{Question, question_of};
 use crate::by_namespace::ByNamespace;
 use crate::line_fault::{LineFault, line_fault};
 use crate::replay_fault::ReplayFault;
@@ -57,6 +59,40 @@ fn answer_to_event(
     })
 }
 
+/// The answer to what is asked behind so many events.
+fn answer_to_question(
+    alloc: Global,
+    world: &World<ByNamespace>,
+    events: usize,
+    question: Question,
+) -> Result<Vec<u8>, AllocError>
+    ensures { (task : Task) (w : worlds.World) → Represents world.now task w → IfOk result (λ v. v.items ≡ flat_map part_text (asked_parts (question_seen question) events w)) }
+{
+    match question {
+        Question::Next => next_text(alloc, events, &world.next_move()),
+        Question::Objects => objects_text(alloc, events, &world.objects()?),
+    }
+}
+
+/// The answer to a line of no event, behind so many.
+fn answer_to_other(
+    alloc: Global,
+    world: &World<ByNamespace>,
+    events: usize,
+    line: &[u8],
+    fault: &LineFault,
+) -> Result<Vec<u8>, AllocError>
+    ensures { (task : Task) (w : worlds.World) → Represents world.now task w → IfOk result (λ v. (why : List ℕ) × (v.items ≡ flat_map part_text (other_parts events w line.now why))) }
+{
+    let Ok(text) = str::from_utf8(line) else {
+        return bad_line(alloc, events, fault);
+    };
+    match question_of(alloc, text)? {
+        Some(question) => answer_to_question(alloc, world, events, question),
+        None => bad_line(alloc, events, fault),
+    }
+}
+
 /// The answer to a line, before which there were so many events.
 pub(crate) fn answer_to(
     alloc: Global,
@@ -80,7 +116,7 @@ pub(crate) fn answer_to(
         Ok(event) => answer_to_event(alloc, world, events + 1, &event),
         Err(fault) => Ok(Answer {
             events,
-            text: bad_line(alloc, events, &fault)?,
+            text: answer_to_other(alloc, world, events, line, &fault)?,
         }),
     }
 }

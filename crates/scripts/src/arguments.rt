@@ -4,10 +4,11 @@ ghost use Rattle.std.specs.Prelude.{◌≡◌, ◌≤◌, [], IfOk, IfErr, Some,
 ghost use Rattle.clap.specs.Matches.{first_value, found_of};
 ghost use Rattle.clap.specs.Words.{fault_of, first_of, matches_of, one_of};
 ghost use Rattle.programs.specs.Commands.{IsFlag};
-ghost use Rattle.programs.specs.Numbers.{IsNumberOr};
+ghost use Rattle.history.specs.History.{last_revision};
+ghost use Rattle.programs.specs.Numbers.{IsNumberIn, IsNumberOr};
 ghost use Rattle.programs.specs.Resources.{resource_in};
 ghost use Rattle.programs.specs.Views.{resource_of};
-ghost use Rattle.scripts.specs.PlayerCommand.{IsPlayerCommand, IsPipeCommand, RefusedBy, default_label, default_page, default_type, pipe_app, player};
+ghost use Rattle.scripts.specs.PlayerCommand.{IsPlayerCommand, IsPipeCommand, RefusedBy, RefusedByPipe, default_label, default_page, default_revision, default_type, pipe_app, player};
 ghost use Rattle.scripts.specs.declared.program_fault.ProgramFault.TheVariants.{Form};
 
 use crate::program_fault::ProgramFault;
@@ -39,6 +40,14 @@ const PAGE: NumberOption = NumberOption {
     least: 0,
     most: 4294967295,
     help: "How many objects a page of the client's list has at most, 1 to 500",
+};
+
+const REVISION: NumberOption = NumberOption {
+    name: "revision",
+    default: Some("1"),
+    least: 1,
+    most: 9223372036854775807,
+    help: "The version at which the server begins, without objects",
 };
 
 const SELECTOR: TextOption<'static> = TextOption {
@@ -89,6 +98,8 @@ pub struct PipeOptions<'a> {
     pub client: ClientOptions<'a>,
     /// Whether documents tell clients of the types.
     pub discovery: bool,
+    /// The revision at which the server begins.
+    pub revision: u64,
 }
 
 /// What the arguments of a program ask of its client.
@@ -117,7 +128,8 @@ fn pipe_command<'a>(alloc: Global, asked: Player<'a>) -> Result<Command<'a>, All
         .arg(text_option(alloc, NAMESPACE))?
         .arg(text_option(alloc, TYPE))?
         .arg(text_option(alloc, LABEL))?
-        .arg(flag_option(alloc, DISCOVERY, DISCOVERY_HELP))
+        .arg(flag_option(alloc, DISCOVERY, DISCOVERY_HELP))?
+        .arg(number_option(alloc, REVISION))
 }
 
 fn player_command<'a>(alloc: Global, asked: Player<'a>) -> Result<Command<'a>, AllocError>
@@ -199,10 +211,12 @@ pub fn pipe_options<'a, S: AsStr>(
     ensures resource { IfOk result (λ o. resource_in (unwrap_or (first_of (codes "type") (matches_of (pipe_app asked.entry.name.now) (map S.text arguments.entry.now))) default_type) ≡ Some (resource_of o.client.resource)) }
     ensures label { IfOk result (λ o. o.client.label.now ≡ unwrap_or (first_of (codes "label") (matches_of (pipe_app asked.entry.name.now) (map S.text arguments.entry.now))) default_label) }
     ensures discovery { IfOk result (λ o. IsFlag (one_of (codes "discovery") (matches_of (pipe_app asked.entry.name.now) (map S.text arguments.entry.now))) o.discovery) }
-    ensures refused { RefusedBy (fault_of (pipe_app asked.entry.name.now) (map S.text arguments.entry.now)) (matches_of (pipe_app asked.entry.name.now) (map S.text arguments.entry.now)) result }
+    ensures revision { IfOk result (λ o. IsNumberIn (Some default_revision) (first_of (codes "revision") (matches_of (pipe_app asked.entry.name.now) (map S.text arguments.entry.now))) 1 last_revision o.revision) }
+    ensures refused { RefusedByPipe (fault_of (pipe_app asked.entry.name.now) (map S.text arguments.entry.now)) (matches_of (pipe_app asked.entry.name.now) (map S.text arguments.entry.now)) result }
 {
     let matches = pipe_command(alloc, asked)?.try_get_matches_from(arguments)?;
     let page = number(&matches, PAGE)?;
+    let revision = number(&matches, REVISION)?;
     let resource = resource_of(&matches)?;
     Ok(PipeOptions {
         types: matches.get_str(TYPES).unwrap(),
@@ -214,5 +228,6 @@ pub fn pipe_options<'a, S: AsStr>(
             label: matches.get_str(LABEL.name).unwrap_or(DEFAULT_LABEL),
         },
         discovery: matches.get_flag(DISCOVERY),
+        revision,
     })
 }

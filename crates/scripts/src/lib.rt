@@ -4,7 +4,8 @@
 //! Promises: the values of the programs' arguments are those of `clap`'s exact matches. A script reads as exactly the
 //! events of its lines, or as the number of its first bad line. A play of events writes what the trace of their run shows:
 //! the reply to the request of each apply line, what was written on the other connections, gone or not, and the client's
-//! reports. After a fault it has written a prefix of that.
+//! reports. After a fault it has written a prefix of that. A pipe answers each line before it reads the next; one that asks of the
+//! client changes nothing.
 //! Stands on `world` for the run, on `programs` for what programs share, on `wireclient` for the bytes of a request and
 //! the reading of a reply, on `clap` for the arguments.
 #![tactic(auto)]
@@ -13,6 +14,7 @@ mod answer_text;
 mod answering;
 mod apply_line;
 mod arguments;
+mod asking;
 mod by_namespace;
 mod line_fault;
 mod over_loopback;

@@ -1,12 +1,14 @@
 //! Plays the lines of a reader one by one: each is answered before the next one is read. The answer to a line stands in
 //! `answering`.
-ghost use Rattle.std.specs.Prelude.{◌≡◌, ◌<◌, ◌++◌, ℕ, List, [], IfOk, IfSome, OnErr, OnOk, option_map};
+ghost use Rattle.std.specs.Prelude.{◌≡◌, ◌<◌, ◌≤◌, ◌++◌, ℕ, List, [], IfOk, IfSome, OnErr, OnOk, option_map};
 ghost use Rattle.std.specs.Io.KnownBytes.{Appends, Consumes};
 ghost use Rattle.api_types.specs.Served.{types_view};
 ghost use Rattle.api_types.specs.TypesFile.{ServedShape};
+ghost use Rattle.history.specs.History.{last_revision};
 ghost use Rattle.httpedge.specs.Connections.{written_on};
 ghost use Rattle.world_laws.specs.Tasks.{IsTask, Task, settings_fault};
 ghost use Rattle.world_laws.specs.World as worlds;
+ghost use Rattle.world.specs.Starting.{start_at};
 ghost use Rattle.world.specs.Views.{settings_seen};
 ghost use Rattle.scripts.specs.Plays.{Answers, index_names};
 ghost use Rattle.scripts.specs.Asked.{Ends, settings_asked};
@@ -111,36 +113,43 @@ fn answer_all<R: BufRead, W: Write>(
     Err(ProgramFault::Input(io::Error::from(ErrorKind::FileTooLarge)))
 }
 
-/// A server without connections and objects, and a client that keeps nothing.
+/// A server without connections and objects, at this revision, and a client that keeps nothing.
 fn world_of(
     alloc: Global,
     types: Types,
     settings: Settings,
+    revision: u64,
 ) -> Result<World<ByNamespace>, ReplayFault>
-    ensures represents { IfOk result (λ x. (task : Task) × IsTask (types_view types) task × (task.settings ≡ settings_seen settings) × Represents x task (worlds.start (types_view types))) }
+    requires from { 1 ≤ revision }
+    requires to { revision ≤ last_revision }
+    ensures represents { IfOk result (λ x. (task : Task) × IsTask (types_view types) task × (task.settings ≡ settings_seen settings) × Represents x task (start_at revision (types_view types))) }
     ensures settings { Answers (settings_fault (types_view types) index_names (settings_seen settings)) result }
 {
     let indexes = vec![in alloc; ByNamespace]?;
-    Ok(World::new(alloc, types, settings, indexes)?)
+    Ok(World::new_at(alloc, types, settings, indexes, revision)?)
 }
 
-/// Plays the lines of a reader over a server without connections and objects and a client that keeps nothing, as the options
-/// ask. Before it reads the next line it has written the answer to the last one. A bad line changes nothing.
+/// Plays the lines of a reader over a server without connections and objects, at this revision, and a client that keeps nothing, as
+/// the options ask. Before it reads the next line it has written the answer to the last one. A bad line changes nothing, nor does
+/// one that asks.
 pub fn pipe<R: BufRead, W: Write>(
     alloc: Global,
     types: Types,
     options: &ClientOptions<'_>,
+    revision: u64,
     reader: &mut R,
     writer: &mut W,
 ) -> Result<(), ProgramFault>
-    ensures ok { OnOk result ((received : List ℕ) × (emitted : List ℕ) × PipesAsked (types_view types) (settings_asked (types_view types) options.now) received emitted × Consumes (R.remaining reader.old) (R.remaining reader.new) received
+    requires from { 1 ≤ revision }
+    requires to { revision ≤ last_revision }
+    ensures ok { OnOk result ((received : List ℕ) × (emitted : List ℕ) × PipesAsked (types_view types) (settings_asked (types_view types) options.now) revision received emitted × Consumes (R.remaining reader.old) (R.remaining reader.new) received
         × IfSome (R.remaining reader.old) (λ bytes. received ≡ bytes) × Appends (W.contents writer.old) (W.contents writer.new) emitted) }
-    ensures prefix { OnErr result ((received : List ℕ) × (emitted : List ℕ) × PipesPrefixAsked (types_view types) (settings_asked (types_view types) options.now) received emitted
+    ensures prefix { OnErr result ((received : List ℕ) × (emitted : List ℕ) × PipesPrefixAsked (types_view types) (settings_asked (types_view types) options.now) revision received emitted
         × Consumes (R.remaining reader.old) (R.remaining reader.new) received × Appends (W.contents writer.old) (W.contents writer.new) emitted) }
     ensures ends { Ends (types_view types) (settings_asked (types_view types) options.now) [] result }
 {
     let settings = settings_of(alloc, &types, options)?;
-    let mut world = world_of(alloc, types, settings)?;
+    let mut world = world_of(alloc, types, settings, revision)?;
     answer_all(alloc, &mut world, reader, writer)
 }
 
@@ -148,7 +157,7 @@ pub fn pipe<R: BufRead, W: Write>(
 /// written before; at the start nothing was.
 pub fn answers_join()
     ensures joined { (task : Task) (n : ℕ) (w : worlds.World) (lines : List (List ℕ)) (parts : List Part) (m : ℕ) (v : worlds.World) → Converses task n w lines parts m v → Joins task n w lines parts v }
-    ensures start { (types : List ServedShape) (id : ℕ) → written_on (worlds.start types).hub.connections id ≡ [] }
+    ensures start { (types : List ServedShape) (revision id : ℕ) → written_on (start_at revision types).hub.connections id ≡ [] }
 {
     steps_join();
 }

@@ -135,7 +135,15 @@ fn run_pipe<R: Files + Input + Print + AllocGlobal>(
         return Err(ProgramFault::Run(RunFault::Memory));
     };
     let mut writer = io::writer(rt);
-    pipe(rt.alloc(), types, &options.client, &mut reader, &mut writer)
+    let revision = options.revision;
+    pipe(
+        rt.alloc(),
+        types,
+        &options.client,
+        revision,
+        &mut reader,
+        &mut writer,
+    )
 }
 
 /// Runs `ssa-replay` on its arguments, the program's name first: reads both files, plays the script's lines and prints

@@ -92,7 +92,7 @@ fn apply_in(members: Map<String, Value>) -> Option<ApplyLine>
 }
 
 /// The name and the value of an object's only member.
-fn only_member(members: Map<String, Value>) -> Option<(String, Value)>
+pub(crate) fn only_member(members: Map<String, Value>) -> Option<(String, Value)>
     ensures { option_map (λ m. (string_bytes m.0, view m.1)) result ≡ only_member (members_view members.entries) }
 {
     let mut members = members.into_iter();

@@ -9,3 +9,4 @@ pub mod Represents
 pub mod Stepping
 pub mod Traces
 pub mod Moving
+pub mod Starting

@@ -7,7 +7,8 @@
 //! their counts by a label. Each report is right: its objects are exactly the server's at its revision, and no report is
 //! of a lower one than one before it. An event that is taken by itself adds to the trace what it did, and one that can't
 //! happen is refused with its reason and changes nothing. The next move by which the client comes to the server's revision is
-//! that of its definition, and moves are made until it is there. Settings that can't be had are refused by their least fault.
+//! that of its definition, and moves are made until it is there. What the client has can be seen after each event. Settings that
+//! can't be had are refused by their least fault.
 //! Stands on `recorder` for the server, `reflector` for the client, `indexer` and `summary` for what is reported.
 #![tactic(auto)]
 

@@ -91,3 +91,15 @@ pub(crate) fn report<I: IndexBy>(
         counts,
     }))
 }
+
+impl<I: IndexBy> World<I> {
+    ghost use Rattle.std.specs.FinMap as fin;
+    ghost use Rattle.reflector.specs.Client.{Objects};
+
+    /// What the client has: its objects in order of namespace, then name, shared with it.
+    pub fn objects(&self) -> Result<Vec<Rc<Object>>, AllocError>
+        ensures { (task : Task) (o : Objects) (w : worlds.World) → WorldRepresents (λ b s. I.keys b s) task o self.now w → IfOk result (λ v. map shared_of v.items ≡ map (λ e. e.1) (fin.entries (kept w.client.cache))) }
+    {
+        objects_of(self.alloc, self.client.indexer())
+    }
+}

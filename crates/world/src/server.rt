@@ -1,10 +1,10 @@
 //! The server's side of a run: a hub that keeps what it wrote, and the ids of its connections. The client's side stands in
 //! `world`.
 
-ghost use Rattle.std.specs.Prelude.{◌≡◌, ◌≢◌, ◌++◌, ◌∷◌, ◌&&◌, [], not, Err, IfOk, OnOk, Some, drop, map, option_map};
+ghost use Rattle.std.specs.Prelude.{◌≡◌, ◌≢◌, ◌≤◌, ◌++◌, ◌∷◌, ◌&&◌, [], not, Err, IfOk, OnOk, Some, drop, map, option_map};
 ghost use Rattle.std.specs.List.{filter};
 ghost use Rattle.api_types.specs.Served.{types_view};
-ghost use Rattle.history.specs.History.{fresh};
+ghost use Rattle.history.specs.History.{fresh, last_revision};
 ghost use Rattle.httpedge.specs.Connections.{ended_on, next_id, written_on};
 ghost use Rattle.httpedge.specs.HubViews.{event_of};
 ghost use Rattle.httpedge.specs.NextTurns.{next_turn};
@@ -181,14 +181,16 @@ fn ended_since(
 }
 
 impl Server {
-    /// A hub without connections, over an API without objects.
-    pub(crate) fn new(alloc: Global, types: Types) -> Result<Server, RunFault>
-        ensures serves { IfOk result (λ server. Serves server (edge.start (types_view types) (fresh 1))) }
+    /// A hub without connections, over an API without objects at this revision.
+    pub(crate) fn new_at(alloc: Global, types: Types, revision: u64) -> Result<Server, RunFault>
+        requires from { 1 ≤ revision }
+        requires to { revision ≤ last_revision }
+        ensures serves { IfOk result (λ server. Serves server (edge.start (types_view types) (fresh revision))) }
         ensures link { result ≢ Err RunFault.Link }
     {
         Ok(Server {
             alloc,
-            recorder: Recorder::new(alloc, Api::new(alloc, types)?),
+            recorder: Recorder::new(alloc, Api::new_at(alloc, types, revision)?),
             ids: Vec::new(alloc),
         })
     }

@@ -62,7 +62,7 @@ fn close_if_over<I: IndexBy>(server: &Server, client: &mut Informer<I>, id: u64,
 }
 
 impl<I: IndexBy> World<I> {
-    ghost use Rattle.std.specs.Prelude.{◌≡◌, ◌≢◌, false, map, Err, IfOk, None, OnOk};
+    ghost use Rattle.std.specs.Prelude.{◌≡◌, ◌≢◌, ◌≤◌, false, map, Err, IfOk, None, OnOk};
     ghost use Rattle.api_types.specs.Served.{types_view};
     ghost use Rattle.std.specs.FinMap as fin;
     ghost use Rattle.httpedge.specs.HubViews.{event_of};
@@ -76,8 +76,10 @@ impl<I: IndexBy> World<I> {
     ghost use Rattle.world.specs.Represents.{WorldRepresents, settled, setup_in};
     ghost use Rattle.httpedge.specs.Connections.{next_id};
     ghost use Rattle.world.specs.Stepping.{opens_own, refusal_of};
+    ghost use Rattle.history.specs.History.{last_revision};
+    ghost use Rattle.world.specs.Starting.{start_at};
 
-    /// A server without connections and objects, and the client that does what is asked.
+    /// A server without connections and objects, at revision 1, and the client that does what is asked.
     pub fn new(
         alloc: Global,
         types: Types,
@@ -90,10 +92,29 @@ impl<I: IndexBy> World<I> {
         ensures names { IfOk result (λ x. names_in x.client ≡ map (λ b. I.title b) indexes.items) }
         ensures link { result ≢ Err WorldFault.Link }
     {
+        World::new_at(alloc, types, settings, indexes, 1)
+    }
+
+    /// The same, but that the server begins at this revision, from 1 to 9223372036854775807.
+    pub fn new_at(
+        alloc: Global,
+        types: Types,
+        settings: Settings,
+        indexes: Vec<I>,
+        revision: u64,
+    ) -> Result<World<I>, WorldFault>
+        requires from { 1 ≤ revision }
+        requires to { revision ≤ last_revision }
+        ensures represents { IfOk result (λ x. (task : Task) × IsTask (types_view types) task × (task.settings ≡ settings_seen settings) × WorldRepresents (λ b s. I.keys b s) task fin.empty x (start_at revision (types_view types))) }
+        ensures settings { Answers (settings_fault (types_view types) (map (λ b. I.title b) indexes.items) (settings_seen settings)) result }
+        ensures indexes { IfOk result (λ x. indexes_in x.client ≡ indexes.items) }
+        ensures names { IfOk result (λ x. names_in x.client ≡ map (λ b. I.title b) indexes.items) }
+        ensures link { result ≢ Err WorldFault.Link }
+    {
         types.types_are_named();
         world_laws::tasks_are_made();
         let client = client_of(alloc, &types, &settings, indexes)?;
-        let server = Server::new(alloc, types)?;
+        let server = Server::new_at(alloc, types, revision)?;
         let Settings {
             kind: _,
             namespace: _,

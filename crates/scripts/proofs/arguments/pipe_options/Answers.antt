@@ -2,11 +2,11 @@ use Rattle.std.proofs.Common.{◌≤◌, ◌∙◌, ℕ, [], Some, codes, refl, 
 use Rattle.std.specs.Prelude.{map, unwrap_or, ⊤}
 use Rattle.clap.specs.Words.{fault_of, matches_of}
 use Rattle.clap.proofs.CallerLemmas.{some_of_text}
+use Rattle.history.specs.History.{last_revision}
 use Rattle.programs.specs.Resources.{resource_in}
 use Rattle.programs.proofs.OptionValues.{flag_by, flag_is, number_by, text_is, text_or}
-use Rattle.scripts.specs.PlayerCommand.{default_label, default_page, default_type, pipe_app}
-use Rattle.scripts.proofs.PipeArguments.{fails_by, is_plain, value_at}
-use Rattle.scripts.proofs.PlayerArguments.{page_refused, emitted_by_clap, type_refused}
+use Rattle.scripts.specs.PlayerCommand.{default_label, default_page, default_revision, default_type, pipe_app}
+use Rattle.scripts.proofs.PipeArguments.{emitted_by_clap, fails_by, is_plain, page_refused, revision_refused, type_refused, value_at}
 use Rattle.scripts.proofs.arguments.pipe_options.Goals as goal
 
 pub unwrap-requires : goal.unwrap-requires
@@ -19,6 +19,10 @@ returns-clause-types g c =
 pub returns-clause-page : goal.returns-clause-page
 returns-clause-page g c =
     (number_by _ _ (Some default_page) _ _ _ _ (value_at c.args.asked.name.now _ c.in_ok-pipe_command.ensures.app _ _ c.in_ok-matches.ensures.matches (codes "page")) c.page_of.ensures c.in_ok-page.ensures.number).0
+
+pub returns-clause-revision : goal.returns-clause-revision
+returns-clause-revision g c =
+    number_by _ _ (Some default_revision) 1 last_revision _ _ (value_at c.args.asked.name.now _ c.in_ok-pipe_command.ensures.app _ _ c.in_ok-matches.ensures.matches (codes "revision")) refl c.in_ok-revision.ensures.number
 
 pub returns-clause-selector : goal.returns-clause-selector
 returns-clause-selector g c =
@@ -52,6 +56,14 @@ returns-in_err-page-clause-refused g c =
     let none = fails_by {T = ⊤} name _ c.in_ok-pipe_command.ensures.app words (Ok tt) c.in_ok-matches.ensures.kinds in
     page_refused (fault_of (pipe_app name) words) (matches_of (pipe_app name) words) c.from_residual-in_err-page.result c.in_err-page.field-0.0 _ _ c.from_residual-in_err-page.ensures.1 c.in_err-page.ensures.fault none
     (value_at name _ c.in_ok-pipe_command.ensures.app _ words c.in_ok-matches.ensures.matches (codes "page")) c.in_err-page.ensures.refused
+
+pub returns-in_err-revision-clause-refused : goal.returns-in_err-revision-clause-refused
+returns-in_err-revision-clause-refused g c =
+    let name = c.args.asked.name.now in
+    let words = map g.S.AsStr.text c.args.arguments.now in
+    let none = fails_by {T = ⊤} name _ c.in_ok-pipe_command.ensures.app words (Ok tt) c.in_ok-matches.ensures.kinds in
+    revision_refused (fault_of (pipe_app name) words) (matches_of (pipe_app name) words) c.from_residual-in_err-revision.result c.in_err-revision.field-0.0 _ _ c.from_residual-in_err-revision.ensures.1 c.in_err-revision.ensures.fault none
+    (value_at name _ c.in_ok-pipe_command.ensures.app _ words c.in_ok-matches.ensures.matches (codes "revision")) c.in_err-revision.ensures.refused
 
 pub returns-in_err-resource-clause-refused : goal.returns-in_err-resource-clause-refused
 returns-in_err-resource-clause-refused g c =

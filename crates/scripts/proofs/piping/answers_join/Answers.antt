@@ -10,4 +10,4 @@ pub returns-clause-joined : goal.returns-clause-joined
 returns-clause-joined c = λ task n w lines parts m v converses. all_joined c.steps_join.ensures task n w lines parts m v converses
 
 pub returns-clause-start : goal.returns-clause-start
-returns-clause-start c = λ types id. ap (λ o. unwrap_or (option_map (λ (x : Connection). x.written) o) []) (fin.get-empty nat_cmp id)
+returns-clause-start c = λ types revision id. ap (λ o. unwrap_or (option_map (λ (x : Connection). x.written) o) []) (fin.get-empty nat_cmp id)

@@ -2,7 +2,7 @@ use Rattle.std.proofs.Common.{[], inl, inr, refl}
 use Rattle.std.proofs.KnownBytes.{Appends-nil, Consumes-nil}
 use Rattle.std.proofs.lemmas.Result.{on_err_weaker, on_ok_weaker}
 use Rattle.api_types.specs.Served.{types_view}
-use Rattle.world_laws.specs.World as worlds
+use Rattle.world.specs.Starting.{start_at}
 use Rattle.world.specs.Views.{settings_seen}
 use Rattle.scripts.specs.Asked.{settings_asked}
 use Rattle.scripts.proofs.Endings.{ends_all, ends_as, ends_asking, ends_playing, where_it_fails}
@@ -33,13 +33,13 @@ pub returns-clause-ok : goal.returns-clause-ok
 returns-clause-ok g c =
     let begun = c.in_ok-world.ensures.represents in
     on_ok_weaker c.answer_all.result (λ x. (x.0, x.1, (settings_seen c.in_ok-settings.settings, begun.0, x.2, x.3, c.in_ok-settings.ensures.ok, begun.1, begun.2, x.7), x.4, x.5, x.6))
-    (c.answer_all.ensures.ok begun.0 (worlds.start (types_view c.args.types)) begun.3)
+    (c.answer_all.ensures.ok begun.0 (start_at c.args.revision (types_view c.args.types)) begun.3)
 
 pub returns-clause-prefix : goal.returns-clause-prefix
 returns-clause-prefix g c =
     let begun = c.in_ok-world.ensures.represents in
     on_err_weaker c.answer_all.result (λ x. (x.0, x.1, inr (settings_seen c.in_ok-settings.settings, begun.0, c.in_ok-settings.ensures.ok, begun.1, begun.2, x.4), x.2, x.3))
-    (c.answer_all.ensures.prefix begun.0 (worlds.start (types_view c.args.types)) begun.3)
+    (c.answer_all.ensures.prefix begun.0 (start_at c.args.revision (types_view c.args.types)) begun.3)
 
 pub returns-clause-ends : goal.returns-clause-ends
 returns-clause-ends g c =

@@ -9,7 +9,7 @@ use Rattle.world.specs.Views.{settings_seen}
 use Rattle.world.proofs.AtMost.{few_fresh}
 use Rattle.world.proofs.Texts.{text_bytes}
 use Rattle.world.proofs.Worlds.{reaches_fresh}
-use Rattle.world.proofs.world.World.new.Goals as goal
+use Rattle.world.proofs.world.World.new_at.Goals as goal
 
 pub returns-clause-represents : goal.returns-clause-represents
 returns-clause-represents g c =
