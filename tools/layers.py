@@ -65,7 +65,6 @@ ROWS = (
                 "server_program",
                 "ssa_replay",
                 "ssa_loop",
-                "ssa_pipe",
                 "scripts",
                 "ssa_mirror",
                 "mirror_program",

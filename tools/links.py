@@ -1,12 +1,12 @@
 #!/usr/bin/env python3
-"""Sees that each link of the repository's pages leads to something, and that what README shows of a file is in it.
+"""Sees that each link of the repository's pages leads to something, and that what two of them show of a file is in it.
 
     tools/links.py
 
 A link is `[words](target)`, or a `src` of HTML, outside of blocks of code. Its target is a file or a folder of the repository,
 from the page's folder on, and behind a `#` the anchor of a heading there, as GitHub makes it; links with a scheme aren't looked
-at. A block of README that names a language is the lines of a file, but for their common indent: the last file that is linked
-before it. The status is 1 where something is amiss.
+at. A block of README or TEN_MINUTES that names a language is the lines of a file, but for their common indent: the last file
+that is linked before it. The status is 1 where something is amiss.
 """
 
 from __future__ import annotations
@@ -21,7 +21,7 @@ from collections.abc import Iterator
 import repository
 from repository import TOP
 
-QUOTING = "README.md"
+QUOTING = ("README.md", "docs/TEN_MINUTES.md")
 BLOCK = re.compile(r"^( *)(```+)(.*)\n((?:.*\n)*?)\1\2 *$", re.M)
 CODE = re.compile(r"(`+)(?:.|\n)*?\1")
 LINK = re.compile(r"\[(?:[^\[\]]|\[[^\]]*\])*\]\(([^()\s]+)\)|\bsrc=\"([^\"]+)\"")
@@ -98,7 +98,7 @@ def is_in(lines: str, path: str) -> bool:
     width = len(lines.splitlines())
     has = text_of(path).splitlines(keepends=True)
     return any(
-        textwrap.dedent("".join(has[at : at + width])) == lines
+        textwrap.dedent("".join(has[at : at + width])) == textwrap.dedent(lines)
         for at in range(len(has) - width + 1)
     )
 
@@ -115,10 +115,11 @@ def told_of(files: list[str]) -> tuple[list[str], int]:
             count += 1
             if why := fault_of(page, target, known):
                 told.append(f"{page}:{line}: {target}: {why}")
-    for line, file, text in quotes(QUOTING):
-        count += 1
-        if file not in files or not is_in(text, file):
-            told.append(f"{QUOTING}:{line}: these lines aren't in {file or 'a file'}")
+    for page in (it for it in QUOTING if it in files):
+        for line, file, text in quotes(page):
+            count += 1
+            if file not in files or not is_in(text, file):
+                told.append(f"{page}:{line}: these lines aren't in {file or 'a file'}")
     return told, count
 
 

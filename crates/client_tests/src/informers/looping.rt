@@ -1,10 +1,11 @@
 //! What a caller of an informer writes who catches up over connections that are dialled: `docs/CLIENT.md` has it. The
 //! connections are those of `mirrors`.
 
+use crate::cached::By;
 use crate::informers::mirrors::Server;
-use crate::informers::playing::{Namespace, expect_rows};
+use crate::informers::playing::expect_rows;
 use mirroring::{Dial, sync};
-use reflector::{Informer, RelistReason};
+use reflector::Informer;
 use std::alloc::Global;
 use std::test::Fail;
 use summary::Summary;
@@ -13,7 +14,7 @@ use summary::Summary;
 fn catch_up<D: Dial>(
     alloc: Global,
     server: &mut D,
-    informer: &mut Informer<Namespace>,
+    informer: &mut Informer<By>,
     summary: &mut Summary,
     written: u64,
     turns: u64,
@@ -30,7 +31,7 @@ fn catch_up<D: Dial>(
 pub fn followed(
     alloc: Global,
     server: &mut Server,
-    informer: &mut Informer<Namespace>,
+    informer: &mut Informer<By>,
     summary: &mut Summary,
     turns: u64,
 ) -> Result<String, Fail> {
@@ -38,29 +39,14 @@ pub fn followed(
     for _ in 0..turns {
         // One connection, to its end.
         catch_up(alloc, server, informer, summary, u64::MAX, 1)?;
-        push_turn(
-            alloc,
-            &mut text,
-            informer.revision(),
-            informer.relist_reason(),
-        )?;
+        if let Some(revision) = informer.revision() {
+            text.push_str(format!(in alloc; "at {revision};")?.as_str())?;
+        }
+        if let Some(relist_reason) = informer.relist_reason() {
+            text.push_str(format!(in alloc; "{relist_reason}: waits;")?.as_str())?;
+        }
     }
     Ok(text)
-}
-
-fn push_turn(
-    alloc: Global,
-    text: &mut String,
-    revision: Option<u64>,
-    relist_reason: Option<RelistReason>,
-) -> Result<(), Fail> {
-    if let Some(revision) = revision {
-        text.push_str(format!(in alloc; "at {revision};")?.as_str())?;
-    }
-    if let Some(relist_reason) = relist_reason {
-        text.push_str(format!(in alloc; "{relist_reason}: waits;")?.as_str())?;
-    }
-    Ok(())
 }
 
 /// A refusal and a line that doesn't fit are told, once each, and end their connections, though these stay open; a cut

@@ -8,12 +8,12 @@ ghost use Rattle.summary.specs.Counts.{value_of};
 
 use crate::informers::playing::widgets;
 use crate::informers::replies::replies;
+use crate::rows::{expect_text, in_words};
 use indexer::{IndexBy, Indexer, Object};
 use reflector::Informer;
 use std::alloc::{AllocError, Global};
 use std::mem;
 use std::test::Fail;
-use test_rows::{expect_text, in_words};
 
 /// By the value of a label; an object without the label has no key.
 #[derive(Drop)]
@@ -59,23 +59,6 @@ fn one_or_none(alloc: Global, value: Option<&str>) -> Result<Vec<String>, AllocE
 }
 
 /// The objects' keys under each value, after these replies.
-fn fed<I: IndexBy + Drop>(
-    alloc: Global,
-    informer: &mut Informer<I>,
-    words: &str,
-) -> Result<String, Fail> {
-    informer.next_request()?;
-    informer.feed(replies(alloc, words)?.as_bytes())?;
-    let indexer = informer.indexer();
-    in_words(
-        alloc,
-        (
-            indexer.by_index("tier", "web"),
-            indexer.by_index("tier", "db"),
-        ),
-    )
-}
-
 fn fed_all<I: IndexBy + Drop>(alloc: Global, informer: &mut Informer<I>) -> Result<(), Fail> {
     for (words, wanted) in [
         (
@@ -95,7 +78,14 @@ fn fed_all<I: IndexBy + Drop>(alloc: Global, informer: &mut Informer<I>) -> Resu
             "(None, Some({ObjectKey { namespace: \"default\", name: \"a\" }, ObjectKey { namespace: \"default\", name: \"d\" }}))",
         ),
     ] {
-        expect_text(fed(alloc, informer, words)?, wanted)?;
+        informer.next_request()?;
+        informer.feed(replies(alloc, words)?.as_bytes())?;
+        let indexer = informer.indexer();
+        let told = (
+            indexer.by_index("tier", "web"),
+            indexer.by_index("tier", "db"),
+        );
+        expect_text(in_words(alloc, told)?, wanted)?;
     }
     Ok(())
 }

@@ -12,9 +12,9 @@
 //! | `bad` | what is told of a bad byte, and of a piece and one of no bytes after it |
 //! | `request METHOD TARGET`, `request METHOD TARGET TYPE BODY` | the bytes of the request |
 
+use crate::rows::{Answers, first_word, in_words, number, play};
 use std::alloc::{AllocError, Global};
 use std::test::Fail;
-use test_rows::{Answers, first_word, in_words, number, play_all};
 use wireclient::{Item, ReadFault, ReplyReader, request_bytes};
 
 const LENGTH: &str = "HTTP/1.1 200 OK\r\nContent-Length: ";
@@ -29,28 +29,28 @@ impl Answers for Wire {
         let (call, text) = first_word(question);
         match call {
             "reply" => in_words_however_cut(alloc, unfolded(alloc, text)?.as_str()),
-            "bad" => in_words_after_a_bad_byte(alloc),
+            "bad" => {
+                let mut reader = ReplyReader::new(alloc);
+                let bad = reader.feed(b"HTTP/1.1 200 OK\r\n\r\nabc");
+                in_words(alloc, (bad, reader.feed(b"abc"), reader.feed(b"")))
+            }
             "request" => request(alloc, text),
             _ => in_words_of_filled(alloc, call, filled(alloc, text)?.as_str()),
         }
     }
 }
 
-fn push_unfolded(text: &mut String, letter: char) -> Result<(), AllocError> {
-    match letter {
-        '§' => text.push_str(CHUNKED),
-        '#' => text.push_str(LENGTH),
-        '¶' => text.push_str("\r\n"),
-        '␍' => text.push('\r'),
-        '␊' => text.push('\n'),
-        _ => text.push(letter),
-    }
-}
-
 fn unfolded(alloc: Global, line: &str) -> Result<String, AllocError> {
     let mut text = String::new(alloc);
     for letter in line.chars() {
-        push_unfolded(&mut text, letter)?;
+        match letter {
+            '§' => text.push_str(CHUNKED)?,
+            '#' => text.push_str(LENGTH)?,
+            '¶' => text.push_str("\r\n")?,
+            '␍' => text.push('\r')?,
+            '␊' => text.push('\n')?,
+            _ => text.push(letter)?,
+        }
     }
     Ok(text)
 }
@@ -65,40 +65,30 @@ fn filled(alloc: Global, line: &str) -> Result<String, Fail> {
     Ok(unfolded(alloc, line.as_str())?)
 }
 
-/// Puts a status, the bytes of a body and of each line, the end or a bad byte.
-fn push_item(alloc: Global, text: &mut String, item: &Item) -> Result<(), AllocError> {
-    match item {
-        Item::Head(status) => text.push_str(format!(in alloc; " {status}")?.as_str()),
-        Item::Body(bytes) => text.push_str(format!(in alloc;
-            " body {:?}",
-            str::from_utf8(bytes).ok()
-        )?.as_str()),
-        Item::Line(bytes) => text.push_str(format!(in alloc;
-            " line {:?}",
-            str::from_utf8(bytes).ok()
-        )?.as_str()),
-        Item::End => text.push_str(" end"),
-        Item::Malformed => text.push_str(" malformed"),
-    }
-}
-
-/// Puts what a reader tells of a piece; after a bad byte that is nothing.
+/// Puts what a reader tells of a piece, a status, the bytes of a body and of each line, the end or a bad byte; after a bad
+/// byte that is nothing.
 fn push_in_words(
     alloc: Global,
     text: &mut String,
     reader: &mut ReplyReader,
     piece: &[u8],
 ) -> Result<(), AllocError> {
-    match reader.feed(piece) {
-        Ok(items) => {
-            for item in items.iter() {
-                push_item(alloc, text, item)?;
-            }
-            Ok(())
-        }
-        Err(ReadFault::Malformed) => Ok(()),
-        Err(ReadFault::Memory) => Err(AllocError),
+    let items = match reader.feed(piece) {
+        Ok(items) => items,
+        Err(ReadFault::Malformed) => return Ok(()),
+        Err(ReadFault::Memory) => return Err(AllocError),
+    };
+    for item in items.iter() {
+        let told = match item {
+            Item::Head(status) => format!(in alloc; " {status}")?,
+            Item::Body(bytes) => format!(in alloc; " body {:?}", str::from_utf8(bytes).ok())?,
+            Item::Line(bytes) => format!(in alloc; " line {:?}", str::from_utf8(bytes).ok())?,
+            Item::End => String::from_str(alloc, " end")?,
+            Item::Malformed => String::from_str(alloc, " malformed")?,
+        };
+        text.push_str(told.as_str())?;
     }
+    Ok(())
 }
 
 /// What a reader tells of the reply, which comes in two pieces.
@@ -125,12 +115,6 @@ fn in_words_however_cut(alloc: Global, reply: &str) -> Result<String, Fail> {
         }
     }
     Ok(text)
-}
-
-fn in_words_after_a_bad_byte(alloc: Global) -> Result<String, Fail> {
-    let mut reader = ReplyReader::new(alloc);
-    let bad = reader.feed(b"HTTP/1.1 200 OK\r\n\r\nabc");
-    in_words(alloc, (bad, reader.feed(b"abc"), reader.feed(b"")))
 }
 
 fn in_words_of_filled(alloc: Global, call: &str, reply: &str) -> Result<String, Fail> {
@@ -217,7 +201,10 @@ request PATCH /w application/json {"a":1} => Ok("PATCH /w HTTP/1.1\r\nHost: loca
 
 #[test]
 fn examples(rt: HostRuntime) -> Result<(), Fail> {
-    play_all(rt.alloc(), &mut Wire, EXAMPLES)
+    for example in EXAMPLES.split("\n\n") {
+        play(rt.alloc(), &mut Wire, example)?;
+    }
+    Ok(())
 }
 
 const LONG: &str = r#"a_line_has_2097152_bytes: its line feed is the last
@@ -232,5 +219,8 @@ limit HTTP/1.1 200 OK¶Transfer-Encoding: chunked¶¶ffffff¶~2097209 a~ => Ok(2
 
 #[test]
 fn long_replies(rt: HostRuntime) -> Result<(), Fail> {
-    play_all(rt.alloc(), &mut Wire, LONG)
+    for example in LONG.split("\n\n") {
+        play(rt.alloc(), &mut Wire, example)?;
+    }
+    Ok(())
 }

@@ -1,8 +1,8 @@
 //! Replies as a server writes them, each made from a few words of a row; what is asked after them stands in `playing`.
 
+use crate::rows::first_word;
 use std::alloc::{AllocError, Global};
 use std::test::Fail;
-use test_rows::first_word;
 
 const WATCH: &str =
     "HTTP/1.1 200 OK\r\nContent-Type: application/json\r\nTransfer-Encoding: chunked\r\nConnection: close\r\n\r\n";
@@ -16,7 +16,6 @@ pub fn reply(alloc: Global, words: &str) -> Result<String, Fail> {
         "status" => whole(alloc, rest, "{}"),
         "watch" => Ok(String::from_str(alloc, WATCH)?),
         "line" => line(alloc, rest),
-        "text" => chunk(alloc, rest),
         "half" => half(alloc, line(alloc, rest)?.as_str()),
         "end" => Ok(String::from_str(alloc, "0\r\n\r\n")?),
         "bytes" => Ok(rest.replace(alloc, "¶", "\r\n")?),
@@ -72,6 +71,7 @@ fn token_member(alloc: Global, token: &str) -> Result<String, AllocError> {
     format!(in alloc; "\"continue\":\"{token}\",")
 }
 
+/// Objects with commas between them.
 fn objects(alloc: Global, words: &str) -> Result<String, Fail> {
     let mut text = String::new(alloc);
     for word in words.split(' ') {
@@ -104,7 +104,7 @@ fn labels_member(alloc: Global, tier: &str) -> Result<String, AllocError> {
     format!(in alloc; "\"labels\":{{\"tier\":\"{tier}\"}},")
 }
 
-/// A watch's line: `TYPE OBJECT`, or `BOOKMARK REVISION`.
+/// A watch's line, as a chunk: `TYPE OBJECT`, or `BOOKMARK REVISION`.
 fn line(alloc: Global, words: &str) -> Result<String, Fail> {
     let (kind, rest) = first_word(words);
     let subject = subject(alloc, kind, rest)?;

@@ -1,4 +1,5 @@
-//! Summaries that count an informer's notices; the informer alone is tested in `pages` and `watches`.
+//! Summaries that count an informer's notices; the informer alone is tested in
+//! `tests/mirrors` at the top.
 
 use crate::informers::playing::expect_rows;
 use std::test::Fail;

@@ -13,14 +13,12 @@
 //! | `changes NAMESPACE FROM TO MAX` | the changes of a namespace or of all |
 //! | `marks`, `rows`, `seen` | the current and the compacted revision; how many rows hold an object, and how many there are in all; all that there is to be seen |
 
-use crate::cached::play_on_indexer;
-use crate::stores::play_on_store;
+use crate::rows::{Answers, expect_text, first_word, in_words, mark, number, play};
 use history::Key;
 use revtable::{Fault, Table};
 use std::alloc::{AllocError, Global};
 use std::mem;
 use std::test::Fail;
-use test_rows::{Answers, expect_text, first_word, in_words, mark, number, play};
 
 pub const LAST_REVISION: u64 = i64::MAX as u64;
 
@@ -148,29 +146,17 @@ fn anew(alloc: Global, table: &mut Table, call: &str, words: &str) -> Result<Str
     in_words(alloc, change(table, call, &key, word).is_ok())
 }
 
-/// Plays an example on a table that begins at this revision. The table is not dropped, and no other function holds one: one
+/// Plays an example on a table that begins at its revision. The table is not dropped, and no other function holds one: one
 /// that drops a table takes a minute to prove.
-fn play_on_table(alloc: Global, revision: u64, example: &str) -> Result<(), Fail> {
+fn play_on_table(alloc: Global, example: &str) -> Result<(), Fail> {
+    let (_, words) = first_word(example);
+    let (revision, _) = first_word(words);
     let mut tabled = Tabled {
-        table: table_at(alloc, revision)?,
+        table: table_at(alloc, number(revision)?)?,
     };
     let played = play(alloc, &mut tabled, example);
     mem::forget(tabled);
     played
-}
-
-/// Plays examples with blank lines between them, each on what its first words say, of its own.
-pub fn play_each(alloc: Global, examples: &str) -> Result<(), Fail> {
-    for example in examples.split("\n\n") {
-        let (what, words) = first_word(example);
-        let (revision, _) = first_word(words);
-        match what {
-            "indexer" => play_on_indexer(alloc, example)?,
-            "store" => play_on_store(alloc, number(revision)?, example)?,
-            _ => play_on_table(alloc, number(revision)?, example)?,
-        }
-    }
-    Ok(())
 }
 
 const EXAMPLES: &str =
@@ -228,7 +214,10 @@ changes - 1 6 2 => Ok([Change { revision: 2, key: Key { kind: 7, namespace: "def
 
 #[test]
 fn examples(rt: HostRuntime) -> Result<(), Fail> {
-    play_each(rt.alloc(), EXAMPLES)
+    for example in EXAMPLES.split("\n\n") {
+        play_on_table(rt.alloc(), example)?;
+    }
+    Ok(())
 }
 
 const PUT_ANEW: &str = r#"table 1 a_put_that_is_refused_memory
@@ -242,7 +231,7 @@ seen => (Marks { current: 7, compacted: 1 }, Ok(5), Ok([]), Ok([Entry { key: Key
 
 #[test]
 fn a_put_that_is_refused_memory(rt: HostRuntime) -> Result<(), Fail> {
-    play_each(rt.alloc(), PUT_ANEW)
+    play_on_table(rt.alloc(), PUT_ANEW)
 }
 
 const PRUNED_ANEW: &str = r#"table 1 a_prune_that_is_refused_memory
@@ -256,5 +245,5 @@ seen => (Marks { current: 6, compacted: 5 }, Ok(3), Ok([Entry { key: Key { kind:
 
 #[test]
 fn a_prune_that_is_refused_memory(rt: HostRuntime) -> Result<(), Fail> {
-    play_each(rt.alloc(), PRUNED_ANEW)
+    play_on_table(rt.alloc(), PRUNED_ANEW)
 }

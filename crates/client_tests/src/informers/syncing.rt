@@ -3,66 +3,28 @@
 //! `sync LEAST TURNS REPLIES|REPLIES`: how it ends, how often the dialer was told that a reply was given up, and what was
 //! asked; then what stands.
 
-use crate::informers::mirrors::{Cut, Server};
-use crate::informers::playing::{Namespace, play_each, target_in};
-use mirroring::{Dial, MirrorFault, sync};
-use reflector::{Informer, RelistReason};
+use crate::cached::By;
+use crate::informers::mirrors::server_of;
+use crate::informers::playing::expect_rows;
+use crate::rows::{first_word, number};
+use mirroring::{MirrorFault, sync};
+use reflector::Informer;
 use std::alloc::Global;
-use std::io;
-use std::io::ErrorKind;
 use std::test::Fail;
 
-/// A server, and what each request asked.
-#[derive(Drop)]
-struct Asked {
-    alloc: Global,
-    server: Server,
-    targets: String,
-}
-
-impl Dial for Asked {
-    type Reader = Cut;
-
-    fn dial(&mut self, request: &[u8]) -> io::Result<Cut> {
-        let target = target_in(request).map_err(|_| io::Error::from(ErrorKind::InvalidInput))?;
-        self.targets.push_str(" ")?;
-        self.targets.push_str(target)?;
-        self.server.dial(request)
-    }
-
-    fn given_up(&mut self, relist_reason: RelistReason) {
-        self.server.given_up(relist_reason);
-    }
-}
-
-fn ending(done: &Result<bool, MirrorFault>) -> &'static str {
-    match done {
+/// How catching up ends, how often the dialer was told that a reply was given up, and what was asked.
+pub fn synced(alloc: Global, informer: &mut Informer<By>, words: &str) -> Result<String, Fail> {
+    let (least, words) = first_word(words);
+    let (turns, words) = first_word(words);
+    let mut server = server_of(alloc, words)?;
+    let done = sync(alloc, &mut server, informer, number(least)?, number(turns)?);
+    let end = match &done {
         Ok(true) => "there",
         Ok(false) => "not there",
         Err(MirrorFault::Dial(_)) => "no connection",
         Err(_) => "another fault",
-    }
-}
-
-/// How catching up ends, how often the dialer was told that a reply was given up, and what was asked.
-pub fn synced(
-    alloc: Global,
-    server: Server,
-    informer: &mut Informer<Namespace>,
-    least: u64,
-    turns: u64,
-) -> Result<String, Fail> {
-    let mut asked = Asked {
-        alloc,
-        server,
-        targets: String::new(alloc),
     };
-    let done = sync(alloc, &mut asked, informer, least, turns);
-    let end = ending(&done);
-    Ok(format!(in alloc;
-        "{end}, {} given up:{}; ",
-        asked.server.times, asked.targets
-    )?)
+    Ok(format!(in alloc; "{end}, {} given up:{}; ", server.times, server.targets)?)
 }
 
 const EXAMPLES: &str =
@@ -111,5 +73,8 @@ sync 7 1 watch;line BOOKMARK 7 => there, 0 given up: /widgets?watch=true&resourc
 
 #[test]
 fn examples(rt: HostRuntime) -> Result<(), Fail> {
-    play_each(rt.alloc(), EXAMPLES)
+    for example in EXAMPLES.split("\n\n") {
+        expect_rows(rt.alloc(), "", example)?;
+    }
+    Ok(())
 }

@@ -1,5 +1,5 @@
-//! Tests of informers, summaries and mirrors, against replies written by hand. Replies cut at every place are tested in
-//! `replies` beside this.
+//! Tests of what only linked calls show of informers, summaries and mirrors, against replies written by hand: refused memory,
+//! summaries, catching up, streams and outputs that fail, and boxed indexes.
 //!
 //! One function holds an informer and doesn't drop it; all else are rows that are played on it, but for the test of boxed
 //! indexes and the program.
@@ -8,11 +8,8 @@ mod boxed;
 mod looping;
 mod mirror_programs;
 mod mirrors;
-mod pages;
 mod playing;
-mod relist_reasons;
+mod refused;
 mod replies;
-mod starting;
 mod summing;
 mod syncing;
-mod watches;

@@ -12,18 +12,17 @@
 //! | `under INDEX KEY`, `keys INDEX` | the objects' keys under the index's key; the index's keys |
 //! | `twice` | why two indexes with one name are refused |
 
-use crate::tables::play_each;
+use crate::rows::{Answers, expect_text, first_word, in_words, mark, number, play};
 use indexer::{IndexBy, Indexer, Object, ObjectKey};
 use std::alloc::{AllocError, Global};
 use std::collections::BTreeMap;
 use std::rc::{Rc, RcStr};
 use std::test::Fail;
-use test_rows::{Answers, expect_text, first_word, in_words, mark, number, play};
 
 /// By the object's text, told twice, or by its namespace.
 #[derive(Drop)]
-struct By {
-    is_text: bool,
+pub struct By {
+    pub is_text: bool,
 }
 
 impl IndexBy for By {
@@ -45,30 +44,26 @@ impl IndexBy for By {
     }
 }
 
-/// The object of `NAME REVISION TEXT`.
-fn object(alloc: Global, words: &str) -> Result<Rc<Object>, Fail> {
-    let (name, words) = first_word(words);
-    let (revision, text) = first_word(words);
-    let object = Object {
-        namespace: RcStr::from_str(alloc, "default")?,
-        name: RcStr::from_str(alloc, name)?,
-        revision: number(revision)?,
-        labels: BTreeMap::new(alloc),
-        text: String::from_str(alloc, text)?,
-    };
-    Ok(object.shared(alloc)?)
-}
-
+/// The objects of `NAME REVISION TEXT`, with commas between them.
 fn objects(alloc: Global, words: &str) -> Result<Vec<Rc<Object>>, Fail> {
     let mut objects = Vec::new(alloc);
     for each in words.split(',') {
-        objects.push(object(alloc, each)?)?;
+        let (name, words) = first_word(each);
+        let (revision, text) = first_word(words);
+        let object = Object {
+            namespace: RcStr::from_str(alloc, "default")?,
+            name: RcStr::from_str(alloc, name)?,
+            revision: number(revision)?,
+            labels: BTreeMap::new(alloc),
+            text: String::from_str(alloc, text)?,
+        };
+        objects.push(object.shared(alloc)?)?;
     }
     Ok(objects)
 }
 
 /// Plays an example on an indexer without objects, by namespace and by text.
-pub fn play_on_indexer(alloc: Global, example: &str) -> Result<(), Fail> {
+fn play_on_indexer(alloc: Global, example: &str) -> Result<(), Fail> {
     let indexes = vec![in alloc; By { is_text: false }, By { is_text: true }]?;
     let mut cached = Cached {
         indexer: Indexer::new(alloc, indexes)?,
@@ -88,7 +83,11 @@ impl Answers for Cached {
         let (one, other) = first_word(words);
         let indexer = &mut self.indexer;
         match call {
-            "put" => in_words(alloc, indexer.put(object(alloc, words)?)),
+            "put" => {
+                let mut made = objects(alloc, words)?;
+                let object = made.pop().ok_or("no object")?;
+                in_words(alloc, indexer.put(object))
+            }
             "replace" => in_words(alloc, indexer.replace(objects(alloc, words)?)),
             "anew" => anew(alloc, indexer, one, other),
             "under" => in_words(alloc, indexer.by_index(one, other)),
@@ -193,7 +192,10 @@ twice => Some(SameName)"#;
 
 #[test]
 fn examples(rt: HostRuntime) -> Result<(), Fail> {
-    play_each(rt.alloc(), EXAMPLES)
+    for example in EXAMPLES.split("\n\n") {
+        play_on_indexer(rt.alloc(), example)?;
+    }
+    Ok(())
 }
 
 const PUT_ANEW: &str = r#"indexer a_put_that_is_refused_memory
@@ -217,7 +219,7 @@ under text y => Some({ObjectKey { namespace: "default", name: "a" }})"#;
 /// it is called again.
 #[test]
 fn a_put_that_is_refused_memory(rt: HostRuntime) -> Result<(), Fail> {
-    play_each(rt.alloc(), PUT_ANEW)
+    play_on_indexer(rt.alloc(), PUT_ANEW)
 }
 
 const REPLACED: &str = r#"indexer a_replace_that_is_refused_memory
@@ -232,5 +234,5 @@ under text y => None"#;
 /// Whichever allocation of a replace is refused, the objects and both indexes are as they were.
 #[test]
 fn a_replace_that_is_refused_memory(rt: HostRuntime) -> Result<(), Fail> {
-    play_each(rt.alloc(), REPLACED)
+    play_on_indexer(rt.alloc(), REPLACED)
 }

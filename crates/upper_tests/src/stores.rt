@@ -15,7 +15,8 @@
 //! | `kept REVISION MAX` | the first objects there that have a text of one byte, at most so many; how many texts were looked at |
 //! | `numbers`, `seen` | the current and the compacted revision; all that there is to be seen |
 
-use crate::tables::{key, play_each, table_at};
+use crate::rows::{Answers, expect_text, first_word, in_words, mark, number, play};
+use crate::tables::{key, table_at};
 use history::{Key, Object, Write};
 use revstore::{Store, WriteFault};
 use revtable::{Fault, Keep};
@@ -23,7 +24,6 @@ use std::alloc::{AllocError, Global};
 use std::cell::Cell;
 use std::mem;
 use std::test::Fail;
-use test_rows::{Answers, expect_text, first_word, in_words, mark, number, play};
 
 /// Whether there was an object; then it is erased.
 fn erase(store: &mut Store, key: &Key) -> Result<bool, WriteFault> {
@@ -118,8 +118,7 @@ impl Answers for Stored {
             "list" => in_words(alloc, store.list_at(7, None, number(one)?, None, 10)),
             "changes" => in_words(alloc, store.changes(7, Some("default"), number(one)?, 10)),
             "compact" => in_words(alloc, store.compact(number(one)?)),
-            "anew" => anew(alloc, store, one, other),
-            "again" => again(alloc, store, one, other),
+            "anew" | "again" => marked(alloc, store, call == "anew", words),
             "many" => many(alloc, store, one, other),
             "both" => both(alloc, store, one, other),
             _ => answer_of_key(alloc, store, call, &key(alloc, one)?, other),
@@ -166,29 +165,27 @@ fn change(store: &mut Store, call: &str, key: &Key, word: &str) -> bool {
     }
 }
 
-/// A change between marks; where the table failed, all is seen as before, and the change is made again.
-fn anew(alloc: Global, store: &mut Store, call: &str, words: &str) -> Result<String, Fail> {
+/// A call between marks, with a look at all before it or none; where it failed, all is seen as in that look, and it is made
+/// again.
+fn marked(alloc: Global, store: &mut Store, is_seen: bool, words: &str) -> Result<String, Fail> {
+    let (call, words) = first_word(words);
     let (place, word) = first_word(words);
     let key = key(alloc, place)?;
-    let before = seen(alloc, store)?;
+    let before = if is_seen {
+        Some(seen(alloc, store)?)
+    } else {
+        None
+    };
     mark(alloc)?;
     let is_done = change(store, call, &key, word);
     mark(alloc)?;
     if is_done {
         return in_words(alloc, true);
     }
-    expect_text(seen(alloc, store)?, before.as_str())?;
+    if let Some(before) = before {
+        expect_text(seen(alloc, store)?, before.as_str())?;
+    }
     in_words(alloc, change(store, call, &key, word))
-}
-
-/// A call between marks, and no look before it; where it failed, it is made again.
-fn again(alloc: Global, store: &mut Store, call: &str, words: &str) -> Result<String, Fail> {
-    let (place, word) = first_word(words);
-    let key = key(alloc, place)?;
-    mark(alloc)?;
-    let is_done = change(store, call, &key, word);
-    mark(alloc)?;
-    in_words(alloc, is_done || change(store, call, &key, word))
 }
 
 /// Writes a key so often, with a text of so many bytes.
@@ -205,14 +202,23 @@ fn many(alloc: Global, store: &mut Store, place: &str, words: &str) -> Result<St
     in_words(alloc, store.current())
 }
 
-/// Plays an example on a store that begins at this revision. The store is not dropped, and no other function holds one.
-pub fn play_on_store(alloc: Global, revision: u64, example: &str) -> Result<(), Fail> {
+/// Plays an example on a store that begins at its revision. The store is not dropped, and no other function holds one.
+fn play_on_store(alloc: Global, example: &str) -> Result<(), Fail> {
+    let (_, words) = first_word(example);
+    let (revision, _) = first_word(words);
     let mut stored = Stored {
-        store: Store::new(table_at(alloc, revision)?),
+        store: Store::new(table_at(alloc, number(revision)?)?),
     };
     let played = play(alloc, &mut stored, example);
     mem::forget(stored);
     played
+}
+
+fn play_each(alloc: Global, examples: &str) -> Result<(), Fail> {
+    for example in examples.split("\n\n") {
+        play_on_store(alloc, example)?;
+    }
+    Ok(())
 }
 
 const EXAMPLES: &str = r#"store 1 a_fresh_store
