@@ -18,7 +18,8 @@ TOP = os.path.dirname(os.path.dirname(os.path.realpath(__file__)))
 sys.path[:0] = [f"{TOP}/clients/python", f"{TOP}/examples"]
 
 import reconcile  # noqa: E402
-from nazhuvem import Hub, explore  # noqa: E402
+from nazhuvem import Disturbance, Hub, Place, explore  # noqa: E402
+from nazhuvem.disturbances import Held  # noqa: E402
 
 
 def processor_times() -> tuple[float, float]:
@@ -69,12 +70,27 @@ def schedules() -> int:
     return explore(scenario, reconcile.TYPES, reconcile.KINDS)
 
 
+def long_schedules() -> int:
+    """A thousand schedules of 50 events, that disturb nothing."""
+    widget = reconcile.WIDGETS + "/w"
+
+    def scenario(hub: Hub) -> None:
+        hub.apply("alice", widget, {**reconcile.NAMES, "spec": {"replicas": 2}})
+        hub.run(lambda: [hub.request("GET", widget) for _ in range(49)])
+
+    def kind(_: Place) -> list[Disturbance]:
+        return [Held(pumps) for pumps in range(1, 22)]
+
+    return explore(scenario, reconcile.TYPES, (kind,))
+
+
 def main() -> None:
     timed("a hub from nothing", hubs)
     timed("an event", ticks)
     timed("a request, of the first 50", lambda: requests(50))
     timed("a request, of the first 1000", lambda: requests(1000))
     timed("a schedule", schedules)
+    timed("a schedule of 50 events", long_schedules)
 
 
 if __name__ == "__main__":

@@ -15,7 +15,7 @@ TYPES = os.path.join(os.path.dirname(os.path.realpath(__file__)), "widgets.json"
 WIDGET = "/apis/demo.example/v1/namespaces/default/widgets/w"
 NAMES = {"apiVersion": "demo.example/v1", "kind": "Widget"}
 FOUND = """\
-    1   PATCH /apis/demo.example/v1/namespaces/default/widgets/w?fieldManager=alice 201
+    1   PATCH /apis/demo.example/v1/namespaces/default/widgets/w?fieldManager=alice 201, version 2
     2 * GET /apis/demo.example/v1/namespaces/default/widgets/w 200
       > delete /apis/demo.example/v1/namespaces/default/widgets/w
     3 * PATCH /apis/demo.example/v1/namespaces/default/widgets/w/status?fieldManager=controller 404

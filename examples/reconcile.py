@@ -6,7 +6,9 @@ status counts.
 
 `explore` disturbs the controller at each place among its events. Of the first
 controller it finds the race between reading a widget and writing its status, of the
-second that nobody tells it of a child's deletion; the third passes under each schedule.
+second that nobody tells it of a child's deletion; the third passes under each schedule
+of one disturbance. Of two it finds that somebody else may delete the child that the
+controller is about to delete; the fourth passes.
 """
 from __future__ import annotations
 
@@ -15,7 +17,7 @@ import sys
 import time
 from typing import Any, Callable, Optional
 
-from nazhuvem import Hub, Refusal, ScheduleFailed, changes_by, explore
+from nazhuvem import EVERY, Hub, Refusal, ScheduleFailed, changes_by, explore
 from nazhuvem import cuts, deletions, expiries, holds, restarts
 
 TYPES = os.path.join(os.path.dirname(os.path.realpath(__file__)), "widgets.json")
@@ -95,9 +97,13 @@ class Controller:
             self.apply(f"/{name}-{n}", {"metadata": {"labels": {"parent": name}}})
         for child in children:
             if int(child["metadata"]["name"].rpartition("-")[2]) >= wanted:
-                self.ask("DELETE", "/" + child["metadata"]["name"])
+                self.delete(child["metadata"]["name"])
         if parent:
             self.tell(name, wanted)
+
+    def delete(self, name: str) -> None:
+        """Deletes a child."""
+        self.ask("DELETE", "/" + name)
 
     def read(self, name: str) -> Optional[Any]:
         """A widget, if it is there."""
@@ -122,10 +128,21 @@ class WithoutTheRace(Controller):
                 raise
 
 
-class Mended(WithoutTheRace):
+class Watching(WithoutTheRace):
     """Watches the children, too."""
 
     selector = ""
+
+
+class Mended(Watching):
+    """Expects that a child goes before it is deleted."""
+
+    def delete(self, name: str) -> None:
+        try:
+            super().delete(name)
+        except Refusal as refusal:
+            if refusal.status != 404:
+                raise
 
 
 def parent_of(widget: Any) -> str:
@@ -155,11 +172,11 @@ def scenario(controller: type[Controller]) -> Callable[[Hub], None]:
     return play
 
 
-def found_of(controller: type[Controller]) -> str:
-    """What is found of a controller."""
+def found_of(controller: type[Controller], budget: Optional[float] = None) -> str:
+    """What is found of a controller, in so many seconds at most."""
     began = time.monotonic()
     try:
-        explore(scenario(controller), TYPES, KINDS)
+        explore(scenario(controller), TYPES, KINDS, budget=budget)
     except ScheduleFailed as found:
         print(f"{controller.__name__}, in {time.monotonic() - began:.2f} s:\n{found}\n")
         return str(found)
@@ -167,10 +184,14 @@ def found_of(controller: type[Controller]) -> str:
 
 
 def main() -> None:
-    assert 'Refusal: 404 widgets.demo.example "w" not found' in found_of(Controller)
+    assert 'RefusalError: 404 widgets.demo.example "w" not found' in found_of(
+        Controller
+    )
     assert "children: ['w-1'] of 2" in found_of(WithoutTheRace)
+    assert explore(scenario(Watching), TYPES, KINDS) > 50
+    assert 'RefusalError: 404 widgets.demo.example "w-' in found_of(Watching, 300)
     began = time.monotonic()
-    count = explore(scenario(Mended), TYPES, KINDS)
+    count = explore(scenario(Mended), TYPES, (*KINDS, *EVERY), budget=5)
     print(f"Mended: {count} schedules in {time.monotonic() - began:.2f} s")
 
 

@@ -4,17 +4,17 @@ another folder); part of the gate.
 
     tools/clients_test.py
 
-What needs something that isn't installed is told as skipped: Go (Debian's `golang-go`), the package `kubernetes` (Debian's
-`python3-kubernetes`), and client-go, which is taken from the GOPATH that CLIENT_GO names (examples/go.md says how to make one).
+What needs something that isn't installed is told as skipped: Go (Debian's `golang-go`), the packages `kubernetes` and `pytest`
+(Debian's `python3-kubernetes` and `python3-pytest`), and client-go, which is taken from the GOPATH that CLIENT_GO names (examples/go.md says how to make one).
 The last line counts what passed and what failed; the status is 1 where something fails.
 """
 from __future__ import annotations
 
 import concurrent.futures
 import glob
-import importlib.util
 import os
 import shutil
+import subprocess
 import sys
 import tempfile
 import time
@@ -24,6 +24,8 @@ from running import TOP, begun, has_client_go
 
 PYTHON = f"{TOP}/clients/python"
 GO = f"{TOP}/clients/go"
+# Tests that need a package of others.
+OF_OTHERS = {"test_kubernetes": "kubernetes", "test_pytest": "pytest"}
 # What a step may take; the first build of client-go takes some minutes.
 SECONDS = 900
 
@@ -49,14 +51,20 @@ class Step:
         return passed
 
 
+def python_with(package: str) -> str:
+    """A Python that has this package: this one, or Debian's; empty where there is none."""
+    pythons = (it for it in (sys.executable, "/usr/bin/python3") if os.access(it, os.X_OK))
+    return next((it for it in pythons if not subprocess.run([it, "-c", f"import {package}"], stderr=subprocess.DEVNULL).returncode), "")
+
+
 def python_steps() -> Iterator[Step]:
-    missing = "" if importlib.util.find_spec("kubernetes") else "python3-kubernetes isn't installed"
     for path in sorted(glob.glob(f"{PYTHON}/tests/test_*.py")):
         name = os.path.basename(path).removesuffix(".py")
-        is_of_theirs = name == "test_kubernetes"
-        strictly = () if is_of_theirs else ("-W", "error::ResourceWarning")
-        yield Step(f"clients/python, {name}", PYTHON, sys.executable, *strictly, "-m", "unittest", "-q", f"tests.{name}",
-                   skipped=missing if is_of_theirs else "")
+        package = OF_OTHERS.get(name, "")
+        python = python_with(package) if package else sys.executable
+        strictly = () if name == "test_kubernetes" else ("-W", "error::ResourceWarning")
+        yield Step(f"clients/python, {name}", PYTHON, python or sys.executable, *strictly, "-m", "unittest", "-q", f"tests.{name}",
+                   skipped="" if python else f"python3-{package} isn't installed")
     for name in ("first_test.py", "reconcile.py", "lease.py"):
         yield Step(f"examples/{name}", f"{TOP}/examples", sys.executable, name, PYTHONPATH=PYTHON)
 

@@ -5,13 +5,15 @@
     tools/crd_test.py --write
 
 PROGRAM is crates/ssa_server/out/ssa_server where none is named. Of each definition of tools/definitions (NAME.json or
-NAME.yaml) `expected/NAME.json` is the types file that --drop prints, and `expected/NAME.said` what it says; --write writes them.
+NAME.yaml) `expected/NAME.json` is the types file that --drop prints, and `expected/NAME.said` what it says with --verbose; --write
+writes them.
 What needs python3-yaml or the server is skipped where that isn't there.
 """
 
 import importlib.util
 import json
 import os
+import shutil
 import subprocess
 import sys
 import tempfile
@@ -53,7 +55,7 @@ def text_of(path: str) -> str:
 def write() -> None:
     """Writes what is expected."""
     for name in definitions():
-        _, printed, said = crd("--drop", f"{FOLDER}/{name}")
+        _, printed, said = crd("--drop", "--verbose", f"{FOLDER}/{name}")
         for ending, text in (("json", printed), ("said", said)):
             if text:
                 with open(expected(name, ending), "w", encoding="utf-8") as it:
@@ -71,12 +73,14 @@ class EachDefinition(unittest.TestCase):
             with self.subTest(name):
                 if name.endswith(".yaml") and not HAS_YAML:
                     self.skipTest("python3-yaml isn't installed")
-                status, printed, said = crd("--drop", f"{FOLDER}/{name}")
+                status, printed, said = crd("--drop", "--verbose", f"{FOLDER}/{name}")
                 self.assertEqual(said, text_of(expected(name, "said")))
                 self.assertEqual(printed, text_of(expected(name, "json")))
                 self.assertEqual(status, 0 if printed else 1)
-                status, printed, all_said = crd(f"{FOLDER}/{name}")
-                self.assertEqual((status, printed), (1, ""))
+                is_whole = not said.startswith(("type ", "field "))
+                wanted = (0, printed) if is_whole else (1, "")
+                status, printed, all_said = crd("--verbose", f"{FOLDER}/{name}")
+                self.assertEqual((status, printed), wanted)
                 self.assertTrue(all_said.startswith(said.partition("crd: ")[0]))
 
     @unittest.skipUnless(HAS_YAML, "python3-yaml isn't installed")
@@ -157,10 +161,40 @@ class Usage(unittest.TestCase):
         self.assertEqual((status, printed), (1, ""))
         self.assertTrue(said.startswith("type    a.b/v1: no file declares it\n"), said)
 
+    def test_rules_are_counted(self) -> None:
+        """Nothing but rules is lost, so no --drop is asked for; --verbose has places."""
+        certificate = f"{FOLDER}/certificate.json"
+        status, printed, said = crd(certificate)
+        self.assertEqual((status, len(json.loads(printed)["types"])), (0, 1))
+        place = "cert-manager.io/v1/certificates"
+        self.assertIn(f"rule    {place}: enum 4, format 4, required 3\n", said)
+        self.assertEqual(said.count("rule "), 1)
+        self.assertEqual(crd("--verbose", certificate)[2].count("rule "), 11)
+
+    def test_names_and_columns(self) -> None:
+        """What kubectl would learn of a definition, and of no types file."""
+        place = "certificates.cert-manager.io"
+        said = crd(f"{FOLDER}/certificate.json")[2]
+        self.assertIn(f"warning {place}: shortNames: cert, certs: ", said)
+        self.assertIn(f"warning {place}: columns: Ready: ", said)
+
+    def test_folders(self) -> None:
+        """A folder is its files of JSON and YAML."""
+        with tempfile.TemporaryDirectory() as folder:
+            status, printed, said = crd(folder)
+            self.assertEqual((status, printed), (2, ""))
+            self.assertIn("no file of this folder ends with .yaml", said)
+            for name in ("certificate", "kustomization"):
+                shutil.copy(f"{FOLDER}/{name}.json", folder)
+            with open(f"{folder}/README.md", "w", encoding="utf-8") as it:
+                it.write("- [")
+            kinds = [it["kind"] for it in json.loads(crd(folder)[1])["types"]]
+            self.assertEqual(kinds, ["Certificate", "Kustomization"])
+
     def test_int_or_string(self) -> None:
         """It is served as the type that was asked for."""
         words = ("--drop", "--int-or-string", "string", f"{FOLDER}/servicemonitor.json")
-        _, printed, said = crd(*words)
+        _, printed, said = crd("--verbose", *words)
         self.assertIn('"targetPort": {"type": "string"}', printed)
         self.assertIn("x-kubernetes-int-or-string: served as string", said)
 
@@ -180,6 +214,23 @@ class Usage(unittest.TestCase):
             status, printed, said = self.of_value(value)
             self.assertEqual((status, printed), (1, ""), said)
             self.assertNotIn("Traceback", said)
+        for value, wanted in (
+            ({**head, "spec": {}}, "no whole definition: names is missing"),
+            (
+                {**head, "spec": {"names": {}}},
+                "no whole definition: versions is missing",
+            ),
+            ({"kind": "ConfigMap"}, "no CustomResourceDefinition in /"),
+        ):
+            self.assertIn(wanted, self.of_value(value)[2])
+
+    def test_nested_too_deep(self) -> None:
+        """It is status 2, and no traceback."""
+        with tempfile.NamedTemporaryFile("w", suffix=".json") as it:
+            it.write("[" * 20_000)
+            it.flush()
+            status, _, said = crd(it.name)
+        self.assertEqual((status, said), (2, f"crd: {it.name}: nested too deep\n"))
 
 
 FAULTS: tuple[dict[str, Any], ...] = (

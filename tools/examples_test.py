@@ -1,5 +1,5 @@
 #!/usr/bin/env python3
-"""Runs the commands of the examples' pages, compares what they print, and runs the examples' own tests.
+"""Runs the commands of the examples' pages and of docs/TEN_MINUTES.md, compares what they print, and runs the examples' own tests.
 
     tools/examples_test.py [--write] [PROGRAM]
 
@@ -29,6 +29,7 @@ from running import BUILT, TOP, Server, begun, has_client_go
 
 PORT = "8001"
 MARK = "---- the end of a command ----"
+BLOCK = re.compile(r"^```(\w*)\n(.*?)^```\n", re.M | re.S)
 COMMAND = re.compile(r"^\$ (.*)$", re.M)
 # After so long a command is over.
 SECONDS = 600
@@ -43,6 +44,7 @@ class Page:
 
 
 PAGES = (
+    Page("docs/TEN_MINUTES.md", ("python3-kubernetes", "python3-pytest")),
     Page("examples/README.md"),
     Page("examples/crd.md", ("python3-yaml",)),
     Page("examples/types/README.md"),
@@ -56,8 +58,9 @@ def has(package: str) -> bool:
     match package:
         case "python3-yaml":
             return importlib.util.find_spec("yaml") is not None
-        case "python3-kubernetes":
-            words = ["/usr/bin/python3", "-c", "import kubernetes"]
+        case "python3-kubernetes" | "python3-pytest":
+            name = package.removeprefix("python3-")
+            words = ["/usr/bin/python3", "-c", f"import {name}"]
             return subprocess.run(words, stderr=subprocess.DEVNULL).returncode == 0
         case "client-go":
             return has_client_go(os.environ.get("GOPATH", ""))
@@ -132,29 +135,28 @@ def write(path: str, text: str) -> None:
 
 def played(page: str, program: str) -> tuple[str, list[str], int]:
     """The text of a page with what its commands print, where that differs, and how many commands it has."""
-    parts = page.split("```\n")
-    count, differences = 0, []
+    count = 0
+    differences: list[str] = []
+
+    def printed(block: re.Match[str]) -> str:
+        """A block with what its commands print."""
+        nonlocal count
+        if block[1] or not block[2].startswith("$ "):
+            return block[0]
+        lines = []
+        for command in COMMAND.findall(block[2]):
+            said = session.run(command)
+            lines += [f"$ {command}", *([said] if said else [])]
+            count += 1
+        text = "".join(f"{it}\n" for it in lines)
+        if text != block[2]:
+            both = block[2].splitlines(), text.splitlines()
+            rows = difflib.unified_diff(*both, "page", "printed", lineterm="")
+            differences.append("\n".join(rows))
+        return f"```\n{text}```\n"
+
     with tempfile.TemporaryDirectory() as folder, Session(program, folder) as session:
-        for at in range(1, len(parts), 2):
-            if not parts[at].startswith("$ "):
-                continue
-            lines = []
-            for command in COMMAND.findall(parts[at]):
-                printed = session.run(command)
-                lines += [f"$ {command}", *([printed] if printed else [])]
-                count += 1
-            text = "".join(f"{it}\n" for it in lines)
-            if text != parts[at]:
-                rows = difflib.unified_diff(
-                    parts[at].splitlines(),
-                    text.splitlines(),
-                    "page",
-                    "printed",
-                    lineterm="",
-                )
-                differences.append("\n".join(rows))
-            parts[at] = text
-    return "```\n".join(parts), differences, count
+        return BLOCK.sub(printed, page), differences, count
 
 
 def main(words: list[str]) -> int:

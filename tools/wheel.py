@@ -3,8 +3,8 @@
 
     tools/wheel.py [FOLDER]
 
-It takes the package `nazhuvem` of clients/python as the release's archive has it, puts the programs into `nazhuvem/bin`, and
-writes FOLDER/nazhuvem-VERSION-py3-none-manylinux_X_Y_x86_64.whl; FOLDER is release/out where none is named. It needs no kit.
+It takes the package `nazhuvem` of clients/python as the release's archive has it, puts the programs into `nazhuvem/bin` and what
+tools/crd is made of beside them, and writes FOLDER/nazhuvem-VERSION-py3-none-manylinux_X_Y_x86_64.whl; FOLDER is release/out where none is named. It needs no kit.
 The same archive gives the same bytes.
 """
 from __future__ import annotations
@@ -45,6 +45,15 @@ def package_of(files: Files) -> Files:
     sys.exit(f"wheel: the release's archive has no {HOME}/{PACKAGE}")
 
 
+def tool_of(files: Files) -> Files:
+    """What tools/crd is made of, by which the package reads definitions."""
+    return {
+        f"{PACKAGE}/{path[len('tools/'):]}": it
+        for path, it in files.items()
+        if path.startswith("tools/types_files/")
+    }
+
+
 def programs_of(files: Files, release: Manifest) -> Files:
     """The programs with what starts them and tells what they are."""
     paths = [
@@ -80,11 +89,28 @@ def metadata(files: Files, release: Manifest) -> str:
     ]
     page = files.get(f"{HOME}/README.md")
     rows += (
-        ["Description-Content-Type: text/markdown", "", page[0].decode()]
+        ["Description-Content-Type: text/markdown", "", without_links(page[0].decode())]
         if page
         else [""]
     )
     return "\n".join(rows)
+
+
+def without_links(page: str) -> str:
+    """A page without the links to others of the repository, which lead nowhere on an index."""
+    return re.sub(r"\[([^\[\]]+)\]\((?!\w+:|#)[^()\s]+\)", r"\1", page)
+
+
+def entry_points(files: Files) -> str:
+    """What the package gives to installers and to pytest, by its pyproject.toml."""
+    project = tomllib.loads(files[f"{HOME}/pyproject.toml"][0].decode())["project"]
+    groups = {"console_scripts": project.get("scripts", {})}
+    groups |= project.get("entry-points", {})
+    return "\n".join(
+        f"[{group}]\n" + "".join(f"{name} = {it}\n" for name, it in points.items())
+        for group, points in groups.items()
+        if points
+    )
 
 
 def record_line(path: str, data: bytes) -> str:
@@ -98,9 +124,11 @@ def record_line(path: str, data: bytes) -> str:
 def wheel_of(files: Files, release: Manifest) -> bytes:
     """The wheel: a zip of the package, the programs and what an installer reads."""
     info = f"{PACKAGE}-{release.version}.dist-info"
-    held = package_of(files) | programs_of(files, release)
+    held = package_of(files) | tool_of(files) | programs_of(files, release)
     held |= {f"{info}/{name}": files[name] for name in LICENCES if name in files}
     held[f"{info}/METADATA"] = metadata(files, release).encode(), 0o644
+    if points := entry_points(files):
+        held[f"{info}/entry_points.txt"] = points.encode(), 0o644
     wheel = f"Wheel-Version: 1.0\nGenerator: tools/wheel.py\nRoot-Is-Purelib: false\nTag: {tag(release)}\n"
     held[f"{info}/WHEEL"] = wheel.encode(), 0o644
     record = (
@@ -131,7 +159,10 @@ def main(words: list[str]) -> int:
     }
     data = wheel_of(files, release)
     path = f"{os.path.realpath(words[0]) if words else f'{PLACE}/out'}/{PACKAGE}-{release.version}-{tag(release)}.whl"
-    released.write_whole(path, data, 0o644)
+    try:
+        released.write_whole(path, data, 0o644)
+    except OSError as error:
+        sys.exit(f"wheel: {path}: {error.strerror}")
     print(f"{path}\n{len(data)} bytes")
     return 0
 

@@ -27,12 +27,30 @@ func isProgram(path string) bool {
 	return err == nil && info.Mode().IsRegular() && info.Mode()&0o111 != 0
 }
 
+// isSame is whether two paths lead to one file.
+func isSame(path, other string) bool {
+	one, err := os.Stat(path)
+	if err != nil {
+		return false
+	}
+	two, err := os.Stat(other)
+	return err == nil && os.SameFile(one, two)
+}
+
 // ofRepository is the program that was built at the top of a repository, or the released
 // one; "" where there is neither.
 func ofRepository(top, name string) string {
-	crate := strings.ReplaceAll(name, "-", "_")
-	if built := filepath.Join(top, "crates", crate, "out", crate); isProgram(built) {
-		return built
+	file := strings.ReplaceAll(name, "-", "_")
+	crate := file
+	if name == "ssa-pipe" {
+		crate = "ssa_replay"
+	}
+	out := filepath.Join(top, "crates", crate, "out")
+	if built := filepath.Join(out, crate); isProgram(built) {
+		if called := filepath.Join(out, file); isSame(called, built) {
+			return called
+		}
+		return filepath.Join(top, name) // which calls it by its name
 	}
 	released := filepath.Join(top, "tools", "released.py")
 	if info, err := os.Stat(filepath.Join(top, "release")); err != nil || !info.IsDir() || !isProgram(released) {

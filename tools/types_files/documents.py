@@ -1,11 +1,16 @@
 """Reads the documents of files: JSON by the standard library, YAML by Debian's python3-yaml."""
 
+from __future__ import annotations
+
 import json
+import os
 import sys
 import types
 from collections.abc import Iterator
 from typing import Any
 
+# The files of a folder that are read.
+ENDINGS = (".yaml", ".yml", ".json")
 # PyYAML has no text for a plain `=` (an enum of some definitions has it), and makes dates of texts that look like one.
 TEXTS = ("tag:yaml.org,2002:value", "tag:yaml.org,2002:timestamp")
 
@@ -36,9 +41,28 @@ def yaml_documents(yaml: types.ModuleType, text: str) -> list[Any]:
     return list(yaml.load_all(text, Loader))
 
 
+def files_of(folder: str) -> list[str]:
+    """The files of a folder that may have definitions."""
+    names = sorted(it for it in os.listdir(folder) if it.endswith(ENDINGS))
+    if not names:
+        raise BadFile(
+            f"{folder}: no file of this folder ends with {', '.join(ENDINGS)}"
+        )
+    return [os.path.join(folder, it) for it in names]
+
+
 def documents_of(path: str) -> list[Any]:
-    """The documents of a file, which is JSON, or else YAML."""
-    text = text_of(path)
+    """The documents of a file, which is JSON, or else YAML, or of a folder's files."""
+    if os.path.isdir(path):
+        return [it for file in files_of(path) for it in documents_of(file)]
+    try:
+        return documents_of_text(path, text_of(path))
+    except RecursionError as error:
+        raise BadFile(f"{path}: nested too deep") from error
+
+
+def documents_of_text(path: str, text: str) -> list[Any]:
+    """The documents of a text, which is JSON, or else YAML."""
     try:
         return [json.loads(text)]
     except json.JSONDecodeError as error:

@@ -1,5 +1,8 @@
 """Makes the types of what files declare."""
 
+from __future__ import annotations
+
+from collections.abc import Sequence
 from typing import Any
 
 from .notes import Note
@@ -75,6 +78,12 @@ class Making:
             "plural": resource.plural,
         }
         self.types.append({**names, "schema": schema})
+
+    def nothing(self, files: Sequence[str]) -> str:
+        """What is said where there are no types."""
+        if self.notes:
+            return "nothing is left to serve"
+        return f"no CustomResourceDefinition in {', '.join(files)}"
 
     def end(self) -> None:
         """Notes what is to be said of all files together."""

@@ -1,5 +1,7 @@
 """Reads the built-in types of Kubernetes' OpenAPI document (version 2, `api/openapi-spec/swagger.json` of its sources)."""
 
+from __future__ import annotations
+
 import re
 from typing import Any
 

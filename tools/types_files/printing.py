@@ -1,5 +1,7 @@
 """Prints JSON for people: a value stands on one line where it fits."""
 
+from __future__ import annotations
+
 import json
 from typing import Any
 

@@ -1,5 +1,7 @@
 """What a document declares: resources, each with the schema of one version."""
 
+from __future__ import annotations
+
 import dataclasses
 import re
 from typing import Any
@@ -65,6 +67,8 @@ def name_of(definition: Schema) -> str:
 
 def versions_of(spec: Schema) -> list[Schema]:
     """The versions of a definition. v1beta1 may have one by its name alone, and beside them what they share."""
+    if not spec.get("versions") and "version" not in spec:
+        raise KeyError("versions")
     versions = spec.get("versions") or [{"name": spec["version"], "served": True}]
     shared = {
         "schema": spec.get("validation") or {},
@@ -83,6 +87,7 @@ def resources_of(definition: Schema, notes: list[Note]) -> list[Resource]:
             reason = "its objects have no namespace"
             notes.append(Note("type", name_of(definition), reason))
             return []
+        note_names(name_of(definition), spec, notes)
         is_old = definition["apiVersion"].endswith("/v1beta1")
         keeps_unknown = is_old and spec.get("preserveUnknownFields") is not False
         return [
@@ -90,10 +95,25 @@ def resources_of(definition: Schema, notes: list[Note]) -> list[Resource]:
             for version in versions_of(spec)
             if version.get("served", True)
         ]
-    except (AttributeError, KeyError, TypeError) as error:
+    except KeyError as error:
+        reason = f"no whole definition: {error.args[0]} is missing"
+    except (AttributeError, TypeError) as error:
         reason = f"no whole definition: {type(error).__name__} {error}"
-        notes.append(Note("type", name_of(definition), reason))
-        return []
+    notes.append(Note("type", name_of(definition), reason))
+    return []
+
+
+def note_names(name: str, spec: Schema, notes: list[Note]) -> None:
+    """Notes short names and columns, which kubectl would learn of a definition."""
+    if short := spec["names"].get("shortNames"):
+        reason = f"shortNames: {', '.join(short)}: kubectl finds it by plural and kind"
+        notes.append(Note("warning", name, reason))
+    columns = [*(spec.get("additionalPrinterColumns") or [])]
+    for version in spec.get("versions") or []:
+        columns += version.get("additionalPrinterColumns") or []
+    if names := list(dict.fromkeys(str(it["name"]) for it in columns)):
+        reason = f"columns: {', '.join(names)}: kubectl shows name and age alone"
+        notes.append(Note("warning", name, reason))
 
 
 def resource_of(spec: Schema, version: Schema, keeps_unknown: bool) -> Resource:

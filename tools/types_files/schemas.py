@@ -1,5 +1,7 @@
 """Makes of a definition's schema one that the server takes, and notes what it loses by that."""
 
+from __future__ import annotations
+
 from typing import Any
 
 from .notes import Note, shown
@@ -80,7 +82,9 @@ class Conversion:
 
     def note(self, kind: str, place: str, reason: str) -> None:
         """Notes a loss or a difference at a place."""
-        self.notes.append(Note(kind, f"{self.resource.place} {place or '.'}", reason))
+        is_fault = kind == "rule" and self.resource.is_declared
+        where = f"{self.resource.place} {place or '.'}"
+        self.notes.append(Note(kind, where, reason, is_fault))
 
     def note_rules(self, schema: Schema, place: str) -> None:
         """Notes the keywords that nobody checks here."""

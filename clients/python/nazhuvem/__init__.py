@@ -1,10 +1,13 @@
 """Schedules of an object API server in a test's hands.
 
 `Hub` is a server of which the test chooses what happens next, `explore` plays a
-scenario under each disturbance at each place, `Server` is a server on a port.
+scenario under each disturbance at each place (`schedules` as a test each), `Server` is
+a server on a port. All three take types files and CustomResourceDefinitions. What they
+raise is a `NazhuvemError`.
 """
 
-from nazhuvem.connection import Refusal, Reply
+from nazhuvem.connection import Reply
+from nazhuvem.definitions import TypesWarning
 from nazhuvem.disturbances import (
     EVERY,
     Disturbance,
@@ -16,13 +19,43 @@ from nazhuvem.disturbances import (
     deletions,
     expiries,
     holds,
+    recreations,
     restarts,
+    unseen_changes,
+    unseen_creations,
+    unseen_deletions,
 )
-from nazhuvem.exploring import Schedule, ScheduleFailed, explore, play
-from nazhuvem.hub import BegunAnew, EventRefused, Hub, NothingComes
-from nazhuvem.pipe import Answer, PipeFailed
-from nazhuvem.programs import ProgramNotFound, find
-from nazhuvem.server import Server, ServerFailed
+from nazhuvem.errors import (
+    BegunAnew,
+    EventRefused,
+    EventRefusedError,
+    NazhuvemError,
+    NothingComes,
+    NothingComesError,
+    NotSettledError,
+    PipeFailed,
+    PipeFailedError,
+    ProgramNotFound,
+    ProgramNotFoundError,
+    Refusal,
+    RefusalError,
+    ScenarioError,
+    ServerFailed,
+    ServerFailedError,
+    TypesError,
+)
+from nazhuvem.exploring import (
+    ScheduleFailed,
+    ScheduleFailedError,
+    explore,
+    play,
+    schedules,
+)
+from nazhuvem.hub import Hub
+from nazhuvem.pipe import Answer
+from nazhuvem.programs import find
+from nazhuvem.schedule import Schedule
+from nazhuvem.server import Server
 from nazhuvem.watch import Watch
 
 __all__ = [
@@ -31,17 +64,29 @@ __all__ = [
     "BegunAnew",
     "Disturbance",
     "EventRefused",
+    "EventRefusedError",
     "Hub",
+    "NazhuvemError",
+    "NotSettledError",
     "NothingComes",
+    "NothingComesError",
     "PipeFailed",
+    "PipeFailedError",
     "Place",
     "ProgramNotFound",
+    "ProgramNotFoundError",
     "Refusal",
+    "RefusalError",
     "Reply",
+    "ScenarioError",
     "Schedule",
     "ScheduleFailed",
+    "ScheduleFailedError",
     "Server",
     "ServerFailed",
+    "ServerFailedError",
+    "TypesError",
+    "TypesWarning",
     "Watch",
     "actions",
     "changes",
@@ -53,5 +98,10 @@ __all__ = [
     "find",
     "holds",
     "play",
+    "recreations",
     "restarts",
+    "schedules",
+    "unseen_changes",
+    "unseen_creations",
+    "unseen_deletions",
 ]

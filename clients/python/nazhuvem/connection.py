@@ -8,6 +8,8 @@ from dataclasses import dataclass
 from typing import Any, Mapping, Optional, Union
 from urllib.parse import urlencode
 
+__tracebackhide__ = True
+
 #: Parameters of a request, by name.
 Query = Mapping[str, Union[str, int, bool]]
 
@@ -25,15 +27,6 @@ class Reply:
 
     status: int
     value: Any
-
-
-class Refusal(Exception):
-    """A reply that is a refusal."""
-
-    def __init__(self, reply: Reply) -> None:
-        super().__init__(f"{reply.status} {reply.value.get('message', '')}")
-        self.status: int = reply.status
-        self.value: Any = reply.value
 
 
 def target_of(path: str, query: Optional[Query]) -> str:
@@ -71,10 +64,10 @@ class Connection:
         self.waiting = bytearray()
         self.ended = False
         self.is_cut = False
-        #: Whether its reply has begun.
-        self.is_told = False
         #: Whether its reply goes on after the request.
         self.is_watch = False
+        self._written: Optional[Chunks] = None
+        self._text = b""
 
     @property
     def seconds(self) -> Optional[float]:
@@ -93,6 +86,12 @@ class Connection:
         del self.waiting[:most]
         return piece
 
+    def lines_of(self, data: bytes) -> list[bytes]:
+        """The lines of a watch that its next bytes complete."""
+        self._written = self._written or Chunks()
+        *lines, self._text = (self._text + self._written.feed(data)).split(b"\n")
+        return lines
+
 
 def status_of(data: Union[bytes, bytearray]) -> int:
     """The status of a reply that begins with these bytes."""
@@ -102,7 +101,7 @@ def status_of(data: Union[bytes, bytearray]) -> int:
 def reply_of(data: Union[bytes, bytearray]) -> Reply:
     """A whole reply whose body has a length."""
     _, _, body = bytes(data).partition(b"\r\n\r\n")
-    return Reply(status_of(data), json.loads(body))
+    return Reply(status_of(data), json.loads(body.decode()))
 
 
 def is_write(method: str) -> bool:
@@ -113,7 +112,7 @@ def is_write(method: str) -> bool:
 def object_written(method: str, target: str, body: Any) -> Optional[str]:
     """The path of the object that a successful write left or, of a DELETE,
     took away; None where it is none of these."""
-    path, _, query = target.partition("?")
+    path = target.partition("?")[0]
     if method == "POST":
         return _created(path, body)
     found = _OBJECT.match(path)

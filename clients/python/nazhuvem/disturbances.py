@@ -8,14 +8,16 @@ from __future__ import annotations
 
 import json
 from dataclasses import dataclass
-from typing import TYPE_CHECKING, Any, Callable, Mapping, Protocol
+from typing import TYPE_CHECKING, Any, Callable, Mapping, Protocol, Sequence, Union
 
-from nazhuvem import hub as hubs
 from nazhuvem.connection import is_write
+from nazhuvem import errors
 from nazhuvem.events import Event
 
 if TYPE_CHECKING:
     from nazhuvem.hub import Hub
+
+__tracebackhide__ = True
 
 #: The manager of a change that nobody of the test makes.
 MANAGER = "disturbance"
@@ -50,6 +52,8 @@ class Disturbance(Protocol):
 
 #: All that may happen at a place.
 Kind = Callable[[Place], list[Disturbance]]
+#: Kinds, or names of those here: `(deletions, "cuts")`.
+Kinds = Union[str, Sequence[Union[Kind, str]]]
 
 
 @dataclass(frozen=True)
@@ -60,7 +64,7 @@ class Deleted:
 
     def happen(self, hub: Hub) -> None:
         """Deletes it, where it is there."""
-        hub.request("DELETE", self.path)
+        hub.request("DELETE", self.path, check=False)
 
     def __str__(self) -> str:
         return f"delete {self.path}"
@@ -76,11 +80,37 @@ class Changed:
 
     def happen(self, hub: Hub) -> None:
         """Changes it, where it is there."""
-        if hub.request("GET", self.path).status == 200:
-            hub.apply(MANAGER, self.path, json.loads(self.text), force=True)
+        if hub.request("GET", self.path, check=False).status == 200:
+            body = json.loads(self.text)
+            hub.apply(_manager_of(body), self.path, body, force=True, check=False)
 
     def __str__(self) -> str:
-        return f"change {self.path} {self.text}"
+        told = json.dumps(_without_names(json.loads(self.text)))
+        return f"change {self.path} {told}"
+
+
+@dataclass(frozen=True)
+class Annotated(Changed):
+    """An object gets an annotation by another manager."""
+
+    def __str__(self) -> str:
+        return f"annotate {self.path}"
+
+
+def _without_names(body: Mapping[str, Any]) -> dict[str, Any]:
+    return {it: body[it] for it in body if it not in ("apiVersion", "kind")}
+
+
+def _manager_of(body: Mapping[str, Any]) -> str:
+    """Who makes a change: one for all changes of the same fields, as an apply by the
+    same manager takes away what it doesn't repeat."""
+    return "-".join([MANAGER, *_leaves(_without_names(body), "")])[:100]
+
+
+def _leaves(value: Any, path: str) -> list[str]:
+    if not isinstance(value, dict) or not value:
+        return [path]
+    return [it for name in value for it in _leaves(value[name], f"{path}.{name}")]
 
 
 @dataclass(frozen=True)
@@ -125,12 +155,75 @@ class Expired:
 
 
 @dataclass(frozen=True)
+class Recreated:
+    """An object is deleted and made again by who had made it, without its status."""
+
+    path: str
+
+    def happen(self, hub: Hub) -> None:
+        """Deletes it and makes it again, where it is there."""
+        value = hub.get(self.path)
+        if value is None:
+            return
+        hub.request("DELETE", self.path)
+        _make(hub, self.path, value)
+
+    def __str__(self) -> str:
+        return f"delete and make again {self.path}"
+
+
+@dataclass(frozen=True)
+class Copied:
+    """Another object of the same content is made."""
+
+    path: str
+
+    def happen(self, hub: Hub) -> None:
+        """Makes it, where the first is there."""
+        value = hub.get(self.path)
+        if value is not None:
+            _make(hub, f"{self.path}-copy", value)
+
+    def __str__(self) -> str:
+        return f"make {self.path}-copy"
+
+
+def _make(hub: Hub, path: str, value: Mapping[str, Any]) -> None:
+    """Applies what an object has, but for its status, by the manager that applied it
+    first."""
+    kept = {
+        name: it for name, it in value.items() if name not in ("metadata", "status")
+    }
+    metadata = value["metadata"]
+    own = {it: metadata[it] for it in ("labels", "annotations") if it in metadata}
+    managers = [it["manager"] for it in metadata.get("managedFields", [])]
+    manager = managers[0] if managers else MANAGER
+    hub.apply(manager, path, {**kept, "metadata": own}, force=True)
+
+
+@dataclass(frozen=True)
+class Unseen:
+    """Something happens behind a 410: watches are cut, and what happened since is
+    compacted, so that only a list shows it."""
+
+    what: Disturbance
+
+    def happen(self, hub: Hub) -> None:
+        """Lets it happen, compacts, and cuts the watches."""
+        self.what.happen(hub)
+        Expired().happen(hub)
+
+    def __str__(self) -> str:
+        return f"{self.what}, behind a 410"
+
+
+@dataclass(frozen=True)
 class BegunAnew:
     """The controller is begun anew."""
 
     def happen(self, hub: Hub) -> None:
         """Ends its work."""
-        raise hubs.BegunAnew
+        raise errors.BegunAnew
 
     def __str__(self) -> str:
         return "begin anew"
@@ -144,7 +237,7 @@ class Meanwhile:
 
     def happen(self, hub: Hub) -> None:
         """Lets it happen."""
-        hub.actions[self.name]()
+        hub.act(self.name)
 
     def __str__(self) -> str:
         return self.name
@@ -157,7 +250,8 @@ def deletions(place: Place) -> list[Disturbance]:
 
 def changes(place: Place) -> list[Disturbance]:
     """A new annotation of each object, by another manager."""
-    return changes_by({"metadata": {"annotations": {MANAGER: "1"}}})(place)
+    body = {"metadata": {"annotations": {MANAGER: str(place.number)}}}
+    return [Annotated(path, text) for path, text in _texts(place, body)]
 
 
 def changes_by(body: Mapping[str, Any]) -> Kind:
@@ -165,13 +259,18 @@ def changes_by(body: Mapping[str, Any]) -> Kind:
     1}}`, say. The controller's objects get it, too."""
 
     def all_of(place: Place) -> list[Disturbance]:
-        return [
-            Changed(path, json.dumps({**place.kinds[path], **body}))
-            for path in place.objects
-            if path in place.kinds
-        ]
+        return [Changed(path, text) for path, text in _texts(place, body)]
 
     return all_of
+
+
+def _texts(place: Place, body: Mapping[str, Any]) -> list[tuple[str, str]]:
+    """The objects of a place, each with what changes it so."""
+    return [
+        (path, json.dumps({**place.kinds[path], **body}))
+        for path in place.objects
+        if path in place.kinds
+    ]
 
 
 def cuts(place: Place) -> list[Disturbance]:
@@ -189,6 +288,28 @@ def expiries(place: Place) -> list[Disturbance]:
     return [Expired()] if place.watches else []
 
 
+def recreations(place: Place) -> list[Disturbance]:
+    """Each object deleted and made again, between two events of the controller."""
+    return [Recreated(path) for path in place.objects]
+
+
+def unseen_deletions(place: Place) -> list[Disturbance]:
+    """The deletion of each object behind a 410, where watches are open: a cache that
+    only adds after a list keeps it."""
+    return [Unseen(it) for it in deletions(place)] if place.watches else []
+
+
+def unseen_changes(place: Place) -> list[Disturbance]:
+    """A new annotation of each object behind a 410, where watches are open."""
+    return [Unseen(it) for it in changes(place)] if place.watches else []
+
+
+def unseen_creations(place: Place) -> list[Disturbance]:
+    """A copy of each object (`NAME-copy`) behind a 410, where watches are open. It is
+    none of `EVERY`, for the scenario has to expect it."""
+    return [Unseen(Copied(it)) for it in place.objects] if place.watches else []
+
+
 def restarts(place: Place) -> list[Disturbance]:
     """The controller begun anew between two of its writes."""
     is_between = place.writes > 0 and is_write(place.event.method)
@@ -200,7 +321,7 @@ def actions(place: Place) -> list[Disturbance]:
     return [Meanwhile(name) for name in place.actions]
 
 
-#: All kinds.
+#: All kinds that a scenario needn't expect.
 EVERY: tuple[Kind, ...] = (
     actions,
     deletions,
@@ -209,4 +330,19 @@ EVERY: tuple[Kind, ...] = (
     holds,
     expiries,
     restarts,
+    recreations,
+    unseen_deletions,
+    unseen_changes,
 )
+
+
+def kinds_of(kinds: Kinds) -> list[Kind]:
+    """These kinds, of which some are called by their names: `"deletions"`."""
+    known = {getattr(kind, "__name__"): kind for kind in (*EVERY, unseen_creations)}
+    found: list[Kind] = []
+    for kind in [kinds] if isinstance(kinds, str) else kinds:
+        if isinstance(kind, str) and kind not in known:
+            names = ", ".join(known)
+            raise errors.ScenarioError(f"no kind of disturbances is {kind!r}: {names}")
+        found.append(known[kind] if isinstance(kind, str) else kind)
+    return found

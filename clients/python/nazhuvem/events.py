@@ -2,11 +2,13 @@
 
 from __future__ import annotations
 
-from dataclasses import dataclass
+from dataclasses import dataclass, field
 from typing import TYPE_CHECKING, Any, Protocol
 
 if TYPE_CHECKING:
     from nazhuvem.hub import Hub
+
+__tracebackhide__ = True
 
 
 @dataclass
@@ -21,10 +23,20 @@ class Event:
     is_controllers: bool = False
     #: The status of the reply, where there is one.
     status: int = 0
+    #: The whole reply of a request.
+    reply: bytes = b""
+    #: The lines that watches brought.
+    lines: list[bytes] = field(default_factory=list)
+    #: Whether a pump was held back.
+    is_held: bool = False
+
+    @property
+    def asked(self) -> str:
+        """What is asked, without what came of it."""
+        return f"{self.method} {self.target}" if self.method else self.kind
 
     def __str__(self) -> str:
-        said = f"{self.method} {self.target}" if self.method else self.kind
-        return f"{said} {self.status}" if self.status else said
+        return f"{self.asked} {self.status}" if self.status else self.asked
 
 
 class Observer(Protocol):

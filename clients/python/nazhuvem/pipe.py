@@ -8,13 +8,15 @@ import subprocess
 from dataclasses import dataclass, field
 from typing import Any, Optional, Sequence
 
-from nazhuvem.programs import Types, TypesFile, environment, find
+from nazhuvem.definitions import Types, TypesFile
+from nazhuvem.errors import PipeFailedError
+from nazhuvem.programs import environment, find, itself
 
-_PIECE = 1 << 20
+__tracebackhide__ = True
 
-
-class PipeFailed(RuntimeError):
-    """The program ended; the text is what it said."""
+# So many bytes a pipe holds; a larger piece would be room that is made in vain.
+_PIECE = 1 << 16
+_OUT, _ENDED, _DONE = '{"out":', '{"ended":', '{"done":'
 
 
 @dataclass
@@ -39,21 +41,27 @@ class Answer:
 
 def _read(lines: list[str], closing: str) -> Answer:
     """The answer whose lines these are, with the one that closes it."""
-    answer = Answer(**_closed(json.loads(closing)))
+    done = closing[len(_DONE) : -1]
+    is_plain = done.isdigit()
+    answer = Answer(int(done)) if is_plain else Answer(**_closed(json.loads(closing)))
     for line in lines:
+        # Most answers have these two alone.
+        if line.startswith(_OUT):
+            number, text = json.loads(line[len(_OUT) : -1])
+            answer.out.append((number, text.encode()))
+            continue
+        if line.startswith(_ENDED):
+            answer.ended.append(int(line[len(_ENDED) : -1]))
+            continue
         ((name, value),) = json.loads(line).items()
-        if name == "out":
-            answer.out.append((value[0], value[1].encode()))
-        elif name == "bytes":
+        if name == "bytes":
             answer.out.append((value[0], bytes.fromhex(value[1])))
-        elif name == "ended":
-            answer.ended.append(value)
         elif name == "opened":
             answer.opened = value
         elif name == "report":
             answer.report = value
         else:
-            raise PipeFailed(f"ssa-pipe printed {line}")
+            raise PipeFailedError(f"ssa-pipe printed {line}")
     return answer
 
 
@@ -66,19 +74,24 @@ class Pipe:
     """A running `ssa-pipe` of these types.
 
     `options` are the options of its client, `"--page", "10"` say. It follows the
-    first type of the file where none is named.
+    first type of the file where none is named. One that doesn't wait until the program
+    answers is begun later, by `begin`.
     """
 
-    def __init__(self, types: Types, options: Sequence[str] = ()) -> None:
+    def __init__(
+        self, types: Types, options: Sequence[str] = (), waits: bool = True
+    ) -> None:
+        program = itself(find("ssa-pipe"))
         self._types = TypesFile(types)
         #: The first type of the file; empty where the file is none of types.
         self.first_type: dict[str, Any] = self._types.first()
-        words = [find("ssa-pipe"), "--types", self._types.path, *options]
+        self._options = list(options)
         if "--type" not in options and self.first_type:
             one = self.first_type
-            words += ["--type", f"{one['group']}/{one['version']}/{one['plural']}"]
+            place = f"{one['group']}/{one['version']}/{one['plural']}"
+            self._options += ["--type", place]
         self._process = subprocess.Popen(
-            words,
+            [program, "--types", self._types.path, *self._options],
             bufsize=0,
             stdin=subprocess.PIPE,
             stdout=subprocess.PIPE,
@@ -90,6 +103,22 @@ class Pipe:
         self._to = self._process.stdin.fileno()
         self._from = self._process.stdout.fileno()
         self._rest = b""
+        self._is_closed = False
+        if waits:
+            self.begin()
+
+    def words(self, beside: str) -> list[str]:
+        """The words of a program that plays the same; a temporary types file is
+        kept beside this file."""
+        return ["--types", self._types.kept(beside), *self._options]
+
+    def begin(self) -> None:
+        """Waits until it answers, or tells why it doesn't: no line is `{}`."""
+        try:
+            self.ask("{}")
+        except BaseException:
+            self.close()
+            raise
 
     def ask(self, *lines: str) -> list[Answer]:
         """The answers to these lines, which are sent at once."""
@@ -98,7 +127,7 @@ class Pipe:
         parts: list[str] = []
         while len(answers) < len(lines):
             for line in self._lines():
-                if line.startswith('{"done":'):
+                if line.startswith(_DONE):
                     answers.append(_read(parts, line))
                     parts = []
                 else:
@@ -106,11 +135,13 @@ class Pipe:
         return answers
 
     def _send(self, data: bytes) -> None:
+        if self._is_closed:
+            raise PipeFailedError("the hub is closed")
         try:
             while data:
                 data = data[os.write(self._to, data) :]
         except BrokenPipeError:
-            raise PipeFailed(self._last_words()) from None
+            raise PipeFailedError(self._last_words()) from None
 
     def _lines(self) -> list[str]:
         """The whole lines that come next, one or more."""
@@ -118,7 +149,7 @@ class Pipe:
         while True:
             piece = os.read(self._from, _PIECE)
             if not piece:
-                raise PipeFailed(self._last_words())
+                raise PipeFailedError(self._last_words())
             pieces.append(piece)
             if b"\n" in piece:
                 break
@@ -132,6 +163,7 @@ class Pipe:
 
     def close(self) -> None:
         """Ends the program."""
+        self._is_closed = True
         for stream in (self._process.stdin, self._process.stdout):
             if stream is not None:
                 stream.close()

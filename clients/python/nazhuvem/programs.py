@@ -2,23 +2,18 @@
 
 from __future__ import annotations
 
-import json
 import os
 import shutil
 import subprocess
-import tempfile
 from functools import lru_cache
 from pathlib import Path
-from typing import Any, Mapping, Optional, Union
+from typing import Mapping, Optional, Sequence
 
-#: A types file: its path, or its value, `{"types": [..]}`.
-Types = Union[str, "os.PathLike[str]", Mapping[str, Any]]
+from nazhuvem.errors import ProgramNotFoundError
+
+__tracebackhide__ = True
 
 _PACKAGE = Path(__file__).resolve().parent
-
-
-class ProgramNotFound(FileNotFoundError):
-    """No folder that is looked in has the program."""
 
 
 def _is_program(path: Path) -> bool:
@@ -31,10 +26,16 @@ def _of_repository(top: Path, name: str) -> Optional[Path]:
     A server that is neither is compiled for one run; other programs would print
     only once they have ended.
     """
-    crate = name.replace("-", "_")
+    file = name.replace("-", "_")
+    crate = "ssa_replay" if name == "ssa-pipe" else file
     built = top / "crates" / crate / "out" / crate
+    called = built.with_name(file)
     if _is_program(built):
-        return built
+        # (what starts it at the top calls it by its name)
+        is_linked = called.is_file() and called.samefile(built)
+        return called if is_linked else top / name
+    if (top / "MANIFEST").is_file() and _is_program(top / name):
+        return top / name
     released = top / "tools" / "released.py"
     if _is_program(released) and (top / "release").is_dir():
         done = subprocess.run([str(released), name], stdout=subprocess.PIPE, text=True)
@@ -57,16 +58,28 @@ def _found(name: str, folder: str) -> Optional[str]:
 def find(name: str) -> str:
     """The path of a program, `ssa-pipe` or `ssa-server` say.
 
-    Looked for in the folder that `NAZHUVEM_BIN` names, in the package's own
-    `bin/`, at the top of the repository that the package stands in, and in
-    `PATH`, in this order.
+    Looked for in the folder that `NAZHUVEM_BIN` names; without it in the package's
+    own `bin/`, at the top of the repository or of the release that the package stands
+    in, and in `PATH`, in this order.
     """
     folder = os.environ.get("NAZHUVEM_BIN")
+    if folder and not _is_program(Path(folder) / name):
+        raise ProgramNotFoundError(f"NAZHUVEM_BIN is {folder}, which has no {name}")
     if found := _found(name, os.path.abspath(folder) if folder else ""):
         return found
-    raise ProgramNotFound(
-        f"{name} is in no folder of NAZHUVEM_BIN, the package, the repository, PATH"
+    raise ProgramNotFoundError(
+        f"{name} is neither in {_PACKAGE / 'bin'}, where a wheel has it, nor in PATH: "
+        "install the wheel, or set NAZHUVEM_BIN to the folder of the programs (in a "
+        "clone `tools/released.py --all` prints one)"
     )
+
+
+@lru_cache(maxsize=None)
+def itself(path: str) -> str:
+    """The program that a script of this path starts in a release, else the path: a hub
+    is sooner there without the script."""
+    beside = Path(path).parent / "programs" / Path(path).name
+    return str(beside) if _is_program(beside) else path
 
 
 def environment() -> dict[str, str]:
@@ -76,31 +89,15 @@ def environment() -> dict[str, str]:
     return {"GLIBC_TUNABLES": tunables, **os.environ}
 
 
-class TypesFile:
-    """A types file as a path: the one given, or a temporary one of a value."""
+def words_of(options: Sequence[str], named: Mapping[str, object]) -> list[str]:
+    """The words of a command line: those given, and named options that they don't
+    have."""
+    words = list(options)
+    for name, value in named.items():
+        if value is not None and value is not False and f"--{name}" not in options:
+            words += [f"--{name}"] if value is True else [f"--{name}", _word(value)]
+    return words
 
-    def __init__(self, types: Types) -> None:
-        self.path: str
-        self._temporary = isinstance(types, Mapping)
-        if isinstance(types, Mapping):
-            descriptor, self.path = tempfile.mkstemp(".json", "nazhuvem-types-")
-            with os.fdopen(descriptor, "w", encoding="utf-8") as file:
-                json.dump(types, file)
-        else:
-            self.path = os.fspath(types)
 
-    def first(self) -> dict[str, Any]:
-        """The first type; nothing where the file is none of types, as the program
-        will say."""
-        try:
-            with open(self.path, encoding="utf-8") as file:
-                one = json.load(file)["types"][0]
-            return {it: one[it] for it in ("group", "version", "kind", "plural")}
-        except (OSError, ValueError, TypeError, LookupError):
-            return {}
-
-    def remove(self) -> None:
-        """Removes the file, where it is a temporary one."""
-        if self._temporary:
-            self._temporary = False
-            os.unlink(self.path)
+def _word(value: object) -> str:
+    return str(os.fspath(value) if isinstance(value, os.PathLike) else value)

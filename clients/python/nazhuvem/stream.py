@@ -10,6 +10,8 @@ from typing import Any, Optional, cast
 from nazhuvem.connection import Connection
 from nazhuvem.hub import Hub
 
+__tracebackhide__ = True
+
 
 class _Raw(io.RawIOBase):
     """The bytes that the hub writes on a connection."""

@@ -5,10 +5,13 @@ from __future__ import annotations
 import json
 from typing import TYPE_CHECKING, Any
 
-from nazhuvem.connection import Chunks, Connection, Refusal, reply_of, status_of
+from nazhuvem.connection import Chunks, Connection, reply_of, status_of
+from nazhuvem.errors import RefusalError
 
 if TYPE_CHECKING:
     from nazhuvem.hub import Hub
+
+__tracebackhide__ = True
 
 
 class Watch:
@@ -20,7 +23,7 @@ class Watch:
 
     def __init__(self, hub: Hub, connection: Connection) -> None:
         if status_of(connection.waiting) != 200:
-            raise Refusal(reply_of(connection.waiting))
+            raise RefusalError(reply_of(connection.waiting))
         self._hub = hub
         self.connection = connection
         self._chunks = Chunks()

@@ -6,12 +6,17 @@ import os
 import unittest
 from pathlib import Path
 from typing import Any, Callable
+from unittest import mock
 
 from nazhuvem import (
+    Disturbance,
     Hub,
+    Place,
+    ScenarioError,
     Schedule,
     ScheduleFailed,
     actions,
+    changes,
     changes_by,
     cuts,
     deletions,
@@ -46,6 +51,22 @@ def tell(hub: Hub) -> None:
         body: dict[str, Any] = {**NAMES, "status": {"ready": ready}}
         told = hub.request("PATCH", WIDGETS + "/w/status", body, query=query)
         assert told.status == 200, told.value["message"]
+
+
+class Noted:
+    """A disturbance that is noted when it happens."""
+
+    def __init__(self, disturbance: Disturbance, seen: list[str]) -> None:
+        self.disturbance = disturbance
+        self.seen = seen
+
+    def happen(self, hub: Hub) -> None:
+        """Notes it."""
+        self.seen.append(str(self))
+        self.disturbance.happen(hub)
+
+    def __str__(self) -> str:
+        return str(self.disturbance)
 
 
 class ExploreTest(unittest.TestCase):
@@ -99,7 +120,7 @@ class ExploreTest(unittest.TestCase):
             if watch.ended:
                 hub.watch(WIDGETS, query={"resourceVersion": 1})
 
-        self.assertIn("Refusal: 410", str(self.found(work, expiries)))
+        self.assertIn("RefusalError: 410", str(self.found(work, expiries)))
 
     def test_begun_anew(self) -> None:
         def work(hub: Hub) -> None:
@@ -126,6 +147,38 @@ class ExploreTest(unittest.TestCase):
             hub.request("GET", WIDGETS + "/w")
 
         self.assertGreater(explore(scenario(work), TYPES), 2)
+
+    def test_kinds_by_their_names(self) -> None:
+        def work(hub: Hub) -> None:
+            hub.request("GET", WIDGETS + "/w")
+
+        self.assertEqual(explore(scenario(work), TYPES, ["deletions", changes]), 3)
+        self.assertEqual(explore(scenario(work), TYPES, "deletions"), 2)
+        with self.assertRaisesRegex(ScenarioError, "'deletion': actions, deletions,"):
+            explore(scenario(work), TYPES, ["deletion"])
+
+    def test_shards(self) -> None:
+        def work(hub: Hub) -> None:
+            hub.settle(lambda: hub.request("GET", WIDGETS + "/w"))
+
+        seen: list[str] = []
+
+        def noted(place: Place) -> list[Disturbance]:
+            found = deletions(place) + changes(place)
+            return [Noted(it, seen) for it in found]
+
+        whole = explore(scenario(work), TYPES, (noted,))
+        every, seen[:] = list(seen), []
+        counts = []
+        for shard in ("1/2", "2/2"):
+            with mock.patch.dict(os.environ, NAZHUVEM_SHARD=shard):
+                counts.append(explore(scenario(work), TYPES, (noted,)))
+        self.assertEqual(sorted(seen), sorted(every))
+        self.assertEqual(sum(counts), whole + 1)
+        for shard in ("3/2", "0/2", "x"):
+            with mock.patch.dict(os.environ, NAZHUVEM_SHARD=shard):
+                with self.assertRaisesRegex(ScenarioError, "NAZHUVEM_SHARD is"):
+                    explore(scenario(work), TYPES)
 
     def test_what_does_not_settle(self) -> None:
         def work(hub: Hub) -> None:

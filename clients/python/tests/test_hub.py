@@ -35,7 +35,7 @@ class Requests(HubTest):
     def test_apply_conflict_and_force(self) -> None:
         apply = self.hub.apply
         self.assertEqual(apply("alice", WIDGETS + "/w", widget(image="a")).status, 201)
-        refused = apply("bob", WIDGETS + "/w", widget(image="b"))
+        refused = apply("bob", WIDGETS + "/w", widget(image="b"), check=False)
         self.assertEqual(refused.status, 409)
         self.assertEqual(refused.value["details"]["causes"][0]["field"], ".spec.image")
         forced = apply("bob", WIDGETS + "/w", widget(image="b"), force=True)
@@ -57,11 +57,20 @@ class Requests(HubTest):
         with Hub(json.loads(TYPES.read_text())) as hub:
             self.assertEqual(hub.request("GET", WIDGETS).status, 200)
 
+    def test_options(self) -> None:
+        hubs = Hub(TYPES), Hub(TYPES, page=1), Hub(TYPES, "--page", "1")
+        for hub, is_whole in zip(hubs, (True, False, False)):
+            with hub:
+                for name in ("a", "b"):
+                    hub.request("POST", WIDGETS, widget(name))
+                hub.event({"client": "send"})
+                hub.event({"toServer": 1000})
+                report = hub.event({"toClient": 1000}).report
+                self.assertEqual(report is not None, is_whole)
+
     def test_bad_types_are_told(self) -> None:
-        hub = Hub({"types": 1})
-        self.addCleanup(hub.close)
         with self.assertRaisesRegex(PipeFailed, "types file"):
-            hub.event({"open": 1})
+            Hub({"types": 1})
 
 
 class Watches(HubTest):

@@ -34,8 +34,8 @@ def children_of(hub: nazhuvem.Hub, name: str) -> int:
 
 def replicas_of(hub: nazhuvem.Hub, name: str) -> int:
     """How many it wants, or none where it is gone."""
-    read = hub.request("GET", f"{WIDGETS}/{name}")
-    return int(read.value["spec"]["replicas"]) if read.status == 200 else 0
+    read = hub.get(f"{WIDGETS}/{name}")
+    return int(read["spec"]["replicas"]) if read else 0
 
 
 class ReadmeTest(unittest.TestCase):
@@ -50,7 +50,7 @@ class ReadmeTest(unittest.TestCase):
 
     def test_code(self) -> None:
         text = README.read_text(encoding="utf-8")
-        hub, explore, phases = re.findall(r"```python\n(.*?)```", text, re.S)
+        hub, explore, phases, _ = re.findall(r"```python\n(.*?)```", text, re.S)
         names: dict[str, Any] = {
             "explore": nazhuvem.explore,
             "Controller": controller(),

@@ -106,10 +106,10 @@ def scenario(controller: Callable[[Hub], Follower]) -> Callable[[Hub], None]:
         for replicas in (2, 5):
             hub.apply("alice", WIDGETS + "/w", widget(replicas=replicas))
             hub.run(work)
-        read = hub.request("GET", WIDGETS + "/w")
-        if read.status == 200:
-            ready = read.value.get("status", {}).get("ready")
-            assert ready == read.value["spec"]["replicas"], "status"
+        read = hub.get(WIDGETS + "/w")
+        if read is not None:
+            ready = read.get("status", {}).get("ready")
+            assert ready == read["spec"]["replicas"], "status"
 
     return play
 
@@ -151,6 +151,35 @@ class SettleTest(unittest.TestCase):
             hub.settle(follower.step)
             read = hub.request("GET", WIDGETS + "/w").value
             self.assertEqual(read["status"], {"ready": 2})
+
+    def test_a_watch_that_ends_by_its_time(self) -> None:
+        """Its last bytes are no line; a list's lines, told again, are no news."""
+        with Hub(TYPES) as hub:
+            hub.apply("alice", WIDGETS + "/w", widget(replicas=2))
+            for query, most in (("&resourceVersion=2", 5), ("", 6)):
+                lines: list[int] = []
+
+                def step() -> None:
+                    connection = HTTPConnection(hub)
+                    target = f"{WIDGETS}?watch=true&timeoutSeconds=1{query}"
+                    connection.request("GET", target)
+                    with connection.getresponse() as reply:
+                        lines.append(len(list(reply)))
+
+                hub.settle(step)
+                self.assertEqual(set(lines), {0} if query else {1})
+                self.assertLessEqual(len(lines), most)
+
+    def test_bookmarks_are_no_news(self) -> None:
+        with Hub(TYPES) as hub:
+            query = {"allowWatchBookmarks": True, "timeoutSeconds": 3600}
+            watch = hub.watch(WIDGETS, query=query)
+
+            def step() -> None:
+                hub.tick(60_000)
+                watch.lines()
+
+            hub.settle(step)
 
     def test_a_watch_that_ends_in_each_step(self) -> None:
         with Hub(TYPES) as hub:
