@@ -219,6 +219,7 @@ def of_pages(results: Results) -> None:
     """Compares what is generated with the sources."""
     results.run("the generated pages", ["tools/pages.py", "--check"])
     results.run("the links of the pages", ["tools/links.py"])
+    results.run("the heads of the sources", ["tools/heads.py"])
     results.run("the picture of the layers", ["tools/layers.py", "--check"])
     results.run("the lines of crates.txt", ["tools/edges.py"])
     results.run("where calls and refusals are shown", ["tools/calls.py"])

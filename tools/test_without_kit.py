@@ -30,6 +30,7 @@ def of_the_files(results: Results) -> None:
     results.run("the release", ["tools/release.py", "--check"])
     results.run("the generated pages", ["tools/pages.py", "--check"])
     results.run("the links of the pages", ["tools/links.py"])
+    results.run("the heads of the sources", ["tools/heads.py"])
     results.run("the picture of the layers", ["tools/layers.py", "--check"])
     results.run("where calls and refusals are shown", ["tools/calls.py"])
     with tempfile.TemporaryDirectory() as room:

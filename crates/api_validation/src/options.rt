@@ -1,5 +1,5 @@
-//! The body of a deletion (Kubernetes API reference, "DeleteOptions", "Preconditions"). The deletion stands in
-//! `validating`.
+//! The body of a deletion (Kubernetes API reference, "DeleteOptions", "Preconditions"). The deletion stands in `validating`
+//! of the crate `verbs`.
 
 ghost use Rattle.std.specs.Prelude.{◌≡◌, codes, option_map};
 ghost use Rattle.serde_json.specs.View.{items_view, members_view, view};

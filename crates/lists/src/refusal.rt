@@ -1,4 +1,4 @@
-//! Why a list is refused. The Status that tells it is made in `verbs`.
+//! Why a list is refused. How a call is refused by it stands in `listing` of the crate `verbs`.
 
 use thiserror::Error;
 

@@ -1,4 +1,4 @@
-//! How many labels an object is printed with; their limit stands in `size` of the crate `verbs`.
+//! How many labels an object is printed with; their limit stands in `size` of the crate `api_validation`.
 ghost use Rattle.std.specs.Prelude.{◌≡◌, true, codes, IfOk};
 ghost use Rattle.schema.specs.Lawful.{is_lawful};
 ghost use Rattle.schema.specs.Shape.{shape};

@@ -1,4 +1,5 @@
-//! The arguments that a program was started with, as texts. What those of `ssa-replay` say is read in `replay_options`.
+//! The arguments that a program was started with, as texts. What those of `ssa-replay` say is read in `arguments` of the crate
+//! `scripts`.
 
 use crate::run_fault::RunFault;
 use std::env;
