@@ -4,7 +4,7 @@ use Rattle.serde_json.specs.Data.{Data}
 use Rattle.history.specs.History.{Change}
 use Rattle.objects.specs.declared.manager.Subresource.{Subresource}
 use Rattle.objects.specs.declared.manager.Subresource.TheVariants.{Main, Status}
-use Rattle.watchline.specs.Opening.{WatchFrom}
+use Rattle.answers.specs.WatchFrom.{WatchFrom}
 use Rattle.api_request.specs.declared.method.Method.{Method}
 use Rattle.api_request.specs.declared.reason.Reason.{Reason}
 

@@ -1,7 +1,7 @@
 -- The Status object that tells a refusal (Kubernetes API conventions, "Response Status Kind").
 use Rattle.std.specs.Prelude.{ℕ, List, codes}
 use Rattle.serde_json.specs.Data.{Data, array, object, Items, no_items, item, Members, no_members, put}
-use Rattle.watchline.specs.Status as status
+use Rattle.answers.specs.Status as status
 use Rattle.api_request.specs.declared.reason.Reason.{Reason}
 use Rattle.api_request.specs.Reasons.{code_of, reason_text}
 

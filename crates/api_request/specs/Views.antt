@@ -8,7 +8,7 @@ use Rattle.matchit.specs.Params.{walk}
 use Rattle.matchit.specs.declared.params.Params.{Params}
 use Rattle.history.specs.History.{Change}
 use Rattle.history.specs.Read.{key_of}
-use Rattle.watchline.specs.Views.{watch_from}
+use Rattle.answers.specs.Views.{watch_from}
 use Rattle.api_request.specs.declared.calls.Target.{Target as TheTarget}
 use Rattle.api_request.specs.declared.calls.Scope.{Scope as TheScope}
 use Rattle.api_request.specs.declared.calls.Scope.TheVariants as scope

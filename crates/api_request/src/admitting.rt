@@ -1,5 +1,5 @@
-//! The checks before a body is read: route, method, media type. What stands in a body is checked in `envelope` and
-//! `naming`.
+//! The checks before a body is read: route, method, media type. What stands in a body is checked in the crate
+//! `api_validation`.
 
 ghost use Rattle.std.specs.Prelude.{◌≡◌, IfOk, Err, option_map};
 ghost use Rattle.api_types.specs.Served.{types_view};

@@ -1,4 +1,4 @@
-//! The body of a request, as JSON. Its envelope is checked in `envelope`, its content is read in `reading`.
+//! The body of a request, as JSON. Its envelope is checked, and its content read, in the crate `api_validation`.
 
 ghost use Rattle.serde_json.specs.View.{view};
 ghost use Rattle.api_request.specs.Json.{IsJson, IsJson-prop};

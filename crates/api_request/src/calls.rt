@@ -1,4 +1,4 @@
-//! Calls, answers and plans as data. How a call is planned stands in `plans`.
+//! Calls, answers and plans as data. How a call is planned stands in `plans` of the crate `verbs`.
 
 ghost use Rattle.std.specs.Prelude.{◌≡◌, string_bytes};
 ghost use Rattle.api_request.specs.Calls.{subresource_of};
@@ -7,8 +7,8 @@ ghost use Rattle.api_request.specs.Stored.{IsAnswered, IsAnswered-prop};
 use crate::body::Body;
 use crate::change::Change;
 use crate::method::Method;
+use answers::WatchFrom;
 use objects::Subresource;
-use watchline::WatchFrom;
 
 /// The status code of what is shown or changed (RFC 9110, section 15.3.1).
 pub const OK: u16 = 200;

@@ -1,4 +1,4 @@
-//! The change that a call makes to the objects. It is made in the store by `writing`.
+//! The change that a call makes to the objects. It is made in the store in `writing` of the crate `verbs`.
 
 ghost use Rattle.std.specs.Prelude.{◌≤◌};
 ghost use Rattle.history.specs.History.{last_revision};

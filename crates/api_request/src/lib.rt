@@ -4,7 +4,7 @@
 //! Promises: a path leads where its parts say; a request is refused for its route first, then for its method, then for its
 //! media type; documents are there for discovered types alone; a refusal is told by the Status of its reason.
 //! Stands on `schema` for the types that paths name, `discovery` for documents, `objects` for subresources, `history` for
-//! keys, `watchline` for where a watch begins and for Status objects, `json_values` for values, and on `matchit` for routes.
+//! keys, `answers` for where a watch begins and for Status objects, `json_values` for values, and on `matchit` for routes.
 #![tactic(auto)]
 
 mod admitting;

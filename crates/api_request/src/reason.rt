@@ -3,7 +3,7 @@
 ghost use Rattle.std.specs.Prelude.{◌≡◌};
 ghost use Rattle.api_request.specs.Reasons.{code_of, reason_text};
 
-use watchline::{EXPIRED, GONE};
+use answers::{EXPIRED, GONE};
 
 /// The reasons of refusals (Kubernetes API conventions, "Response Status Kind").
 #[derive(Clone, Copy, Debug, PartialEq, Eq)]

@@ -1,4 +1,4 @@
-//! The laws of paths; calls stand in `laws`. A function does nothing; what it promises is the law.
+//! The laws of paths; those of calls stand in the crate `verbs`. A function does nothing; what it promises is the law.
 
 ghost use Rattle.api_request.specs.RouteLaws.{DocumentsLeavePlaces, OnlyObjects, PathsOfAll, PathsOfCollections, PathsOfObjects, PathsOfStatus};
 

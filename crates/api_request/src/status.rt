@@ -1,5 +1,5 @@
 //! Status objects: the JSON bodies of replies that refuse a request. Their reasons stand in `reason`; what each Status has
-//! stands in the crate `watchline`.
+//! stands in the crate `answers`.
 
 ghost use Rattle.std.specs.Prelude.{◌≡◌, IfOk};
 ghost use Rattle.serde_json.specs.Data.{object};
@@ -15,7 +15,7 @@ use std::alloc::{AllocError, Global};
 pub fn status_value(alloc: Global, reason: Reason, message: &str) -> Result<Value, AllocError>
     ensures { IfOk result (λ v. view v ≡ status_value reason message.now) }
 {
-    watchline::status_value(alloc, reason.code(), reason.text(), message)
+    answers::status_value(alloc, reason.code(), reason.text(), message)
 }
 
 /// The same, with the causes of an ownership conflict.

@@ -12,7 +12,7 @@ use Rattle.api_request.specs.Calls.{Call, Plan}
 use Rattle.verbs.specs.Machine as machines
 use Rattle.verbs.specs.Machine.{IsMachine}
 use Rattle.verbs.specs.Step.{planned}
-use Rattle.watchline.specs.Opening.{WatchFrom}
+use Rattle.answers.specs.WatchFrom.{WatchFrom}
 use Rattle.requests.specs.Asks.{Asks}
 use Rattle.requests.specs.Decision.{accepted}
 use Rattle.requests.specs.Replies.{answer_bytes}

@@ -6,7 +6,7 @@ use Rattle.api_types.specs.TypesFile.{ServedShape}
 use Rattle.history.specs.History.{History}
 use Rattle.verbs.specs.Machine.{IsMachine}
 use Rattle.verbs.specs.Step.{planned}
-use Rattle.watchline.specs.Opening.{WatchFrom}
+use Rattle.answers.specs.WatchFrom.{WatchFrom}
 use Rattle.api_request.specs.Calls.{Call}
 use Rattle.requests.proofs.Deciding.{asks_more, asks_one}
 use Rattle.requests.specs.Asks.{Asks, CallDecision}

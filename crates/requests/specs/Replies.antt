@@ -5,7 +5,7 @@ use Rattle.api_request.specs.Calls.{Answer, Denied}
 use Rattle.api_request.specs.Reasons.{code_of}
 use Rattle.api_request.specs.Status.{status_value}
 use Rattle.requests.specs.ReplyBytes.{reply, watch_head}
-use Rattle.watchline.specs.Opening.{WatchFrom}
+use Rattle.answers.specs.WatchFrom.{WatchFrom}
 
 -- the reply of a refusal: its Status as compact JSON
 abbrev pub refusal_reply : Denied → List ℕ

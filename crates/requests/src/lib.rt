@@ -4,8 +4,8 @@
 //! is written byte for byte as the definitions say, and so is a watch, a chunk for each line. Connections, and what they do
 //! one after the other, are the crate above (`httpedge`).
 //!
-//! Stands on `wire` for what both ends say alike, on `api_request` for calls, answers and refusals, on `schema` for the types that
-//! a request is admitted by, on `httparse` for the grammar of a head (RFC 9112), on `http` for phrases and on `serde_json`.
+//! Stands on `wire` for what both ends say alike, on `api_request` for calls, answers and refusals, on `api_types` for the types
+//! that a request is admitted by, on `httparse` for the grammar of a head (RFC 9112), on `http` for phrases and on `serde_json`.
 #![tactic(auto)]
 
 mod answering;

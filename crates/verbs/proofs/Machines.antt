@@ -16,9 +16,10 @@ use Rattle.lists.specs.declared.refusal.Refusal.TheVariants.{Expired}
 use Rattle.lists.proofs.Bounds.{list_same}
 use Rattle.params.specs.Values.{Values, Watch}
 use Rattle.params.specs.declared.params.Asked.TheVariants as asked
-use Rattle.watchline.specs.declared.opening.InitialEvents.{InitialEvents}
-use Rattle.watchline.specs.declared.opening.InitialEvents.TheVariants.{Changes}
-use Rattle.watchline.specs.Opening.{WatchFrom, from_parts, initial_in, initial_of, started, opened_by, starts}
+use Rattle.answers.specs.declared.watch_from.InitialEvents.{InitialEvents}
+use Rattle.answers.specs.declared.watch_from.InitialEvents.TheVariants.{Changes}
+use Rattle.answers.specs.WatchFrom.{WatchFrom}
+use Rattle.watchline.specs.Opening.{from_parts, initial_in, initial_of, started, opened_by, starts}
 use Rattle.watchline.specs.Watches.{from_history, from_view}
 use Rattle.history.proofs.Wholes.{whole_compacts, whole_fresh}
 use Rattle.api_request.specs.Calls.{Call, Plan, Scope, of_all, of_namespace, of_object, scope_of}

@@ -31,7 +31,8 @@ use Rattle.params.specs.Values.{Values, Watch}
 use Rattle.params.specs.declared.params.Asked.{Asked}
 use Rattle.params.specs.declared.params.Asked.TheVariants as asked
 use Rattle.watchline.specs.Lines.{expired_message}
-use Rattle.watchline.specs.Opening.{WatchFrom, started}
+use Rattle.answers.specs.WatchFrom.{WatchFrom}
+use Rattle.watchline.specs.Opening.{started}
 use Rattle.watchline.specs.Watches.{HistoryWindow, from_history, from_view}
 use Rattle.api_request.specs.declared.method.Method.{Method}
 use Rattle.api_request.specs.declared.method.Method.TheVariants.{Get, Post, Put, Patch, Delete}

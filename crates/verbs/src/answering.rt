@@ -8,13 +8,13 @@ ghost use Rattle.api_request.specs.Calls as calls;
 ghost use Rattle.api_request.specs.Views.{Returns, answer_of, call_of, call_refusal_of, plan_of};
 ghost use Rattle.verbs.specs.Step.{body_of, plan_for, refused};
 ghost use Rattle.api_request.specs.Validated.{Validated, refused_for};
-ghost use Rattle.watchline.specs.Views.{watch_from};
+ghost use Rattle.answers.specs.Views.{watch_from};
 
 use crate::fault::Fault;
+use answers::WatchFrom;
 use api_request::{Answer, Call, CallError, CallRefusal, NOT_JSON, OK, Plan, Reason};
 use serde_json::Value;
 use std::alloc::{AllocError, Global};
-use watchline::WatchFrom;
 
 /// The answer 200: a body, or the watch that begins.
 pub(crate) fn ok_answer(body: String, watch: Option<WatchFrom>) -> Answer

@@ -1,7 +1,8 @@
 //! The checks of each call on an object, in their order, and the plan of a call that passes them (Kubernetes docs, "Server-Side
 //! Apply" and its "Comparison with Client-Side Apply"; "Kubernetes API Concepts", "Resource versions", "Resource deletion").
-//! What a check is stands by itself: in `envelope`, `reading` (shape), `parameters`, `naming`, `presence`, `conflicts`, `options`,
-//! `preconditions` (version, revisions) and `size`. A list or a watch checks its parameters, then the revision, in `listing`.
+//! Each check stands by itself: those of what a call gives in the crate `api_validation`, those against what stands in
+//! `presence`, `conflicts` and `preconditions` (version, revisions). A list or a watch checks its parameters, then the
+//! revision, in `listing`.
 
 ghost use Rattle.std.specs.Prelude.{◌≡◌, ◌<◌, ◌≤◌, IfOk, OnOk, codes, option_map, string_bytes};
 ghost use Rattle.serde_json.specs.Data.{Data};

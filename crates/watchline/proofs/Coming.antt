@@ -19,8 +19,8 @@ use Rattle.lists.specs.declared.rows.Start.{Start as TheStart}
 use Rattle.lists.specs.Labels.{attributes_of, selection_of}
 use Rattle.lists.specs.Rows.{Start, matching, place_of}
 use Rattle.lists.specs.Views.{start_of}
+use Rattle.answers.specs.declared.watch_from.InitialEvents.TheVariants.{NoneSelected, Objects as SomeObjects}
 use Rattle.watchline.specs.declared.cursor.WatchScope.{WatchScope}
-use Rattle.watchline.specs.declared.opening.InitialEvents.TheVariants.{NoneSelected, Objects as SomeObjects}
 use Rattle.watchline.specs.Lines.{added, error_line, line_of}
 use Rattle.watchline.specs.Opening.{initial_of}
 use Rattle.watchline.specs.Views.{initial_left_of, objects_at}

@@ -18,10 +18,11 @@ use Rattle.history.proofs.Selecting.{entries-selected}
 use Rattle.history.proofs.Views.{state_in_is}
 use Rattle.lists.specs.Labels.{attributes_of, selection_of}
 use Rattle.lists.specs.Rows.{Start}
-use Rattle.watchline.specs.declared.opening.InitialEvents.{InitialEvents}
-use Rattle.watchline.specs.declared.opening.InitialEvents.TheVariants.{Changes, NoneSelected, Objects as SomeObjects}
+use Rattle.answers.specs.WatchFrom.{WatchFrom}
+use Rattle.answers.specs.declared.watch_from.InitialEvents.{InitialEvents}
+use Rattle.answers.specs.declared.watch_from.InitialEvents.TheVariants.{Changes, NoneSelected, Objects as SomeObjects}
 use Rattle.watchline.specs.Lines.{added, bookmark_line, line_of}
-use Rattle.watchline.specs.Opening.{WatchFrom, first_cursor, sent_of}
+use Rattle.watchline.specs.Opening.{first_cursor, sent_of}
 use Rattle.watchline.specs.TurnLaws.{SkipsNothing, after_turns, lines_by, room_of}
 use Rattle.watchline.specs.Watches.{Cursor, InitialLeft, BookmarkTurn, Turn, bookmarked, changes_left, changes_sent, coming, entries_left, expiring, from_history, is_bookmark_due, key_at, initial_left_by_next, initial_left_from, initial_left_after_count, moved, no_initial_left, objects_left, position_by, position_past, pumped, sending, wanted}
 use Rattle.watchline.proofs.Coming.{Entries}

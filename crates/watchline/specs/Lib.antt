@@ -1,6 +1,5 @@
 pub mod Versions
 pub mod Lines
-pub mod Status
 pub mod Watches
 pub mod TurnLaws
 pub mod Opening

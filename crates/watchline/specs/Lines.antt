@@ -5,9 +5,9 @@ use Rattle.serde_json.specs.Data.{Data, string, object, no_members, put}
 use Rattle.serde_json.specs.Written.{compact_text}
 use Rattle.history.specs.History.{Key, Object}
 use Rattle.history.specs.Seen.{SeenKind, Added, Modified, Deleted, SeenChange}
+use Rattle.answers.specs.Status.{status_value}
 use Rattle.watchline.specs.declared.event.EventType.{EventType}
 use Rattle.watchline.specs.declared.event.EventType.TheVariants as event
-use Rattle.watchline.specs.Status.{status_value}
 use Rattle.watchline.specs.Versions.{text_at_version}
 
 abbrev pub type_text : EventType → List ℕ

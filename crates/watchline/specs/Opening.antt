@@ -1,5 +1,5 @@
--- What a watch begins from (Kubernetes docs, "Kubernetes API Concepts", "Semantics for watch").
-use Rattle.std.specs.Prelude.{ℕ, nat_lt, ◌==◌, if◌then◌else◌, Bool, List, [], ◌∷◌, Option, Some, None}
+-- How a watch begins (Kubernetes docs, "Kubernetes API Concepts", "Semantics for watch").
+use Rattle.std.specs.Prelude.{ℕ, nat_lt, ◌==◌, if◌then◌else◌, List, [], ◌∷◌, Option, Some, None}
 use Rattle.std.specs.FinMap as fin
 use Rattle.std.specs.declared.result.Result.{Result}
 use Rattle.std.specs.declared.result.Result.TheVariants.{Ok, Err}
@@ -7,22 +7,13 @@ use Rattle.selector.specs.Requirement.{Requirement}
 use Rattle.history.specs.History.{Key, Object}
 use Rattle.history.specs.Seen.{selected}
 use Rattle.params.specs.Values.{Values, Watch}
+use Rattle.answers.specs.WatchFrom.{WatchFrom}
+use Rattle.answers.specs.declared.watch_from.InitialEvents.{InitialEvents}
+use Rattle.answers.specs.declared.watch_from.InitialEvents.TheVariants.{Changes, Objects, NoneSelected}
 use Rattle.lists.specs.declared.refusal.Refusal.{Refusal}
 use Rattle.lists.specs.declared.refusal.Refusal.TheVariants.{Expired}
 use Rattle.lists.specs.Labels.{selection_of}
-use Rattle.watchline.specs.declared.opening.InitialEvents.{InitialEvents}
-use Rattle.watchline.specs.declared.opening.InitialEvents.TheVariants.{Changes, Objects, NoneSelected}
 use Rattle.watchline.specs.Watches.{HistoryWindow, Cursor, InitialLeft, no_initial_left, initial_left_from}
-
--- the seconds after which it ends are 0 for never
-pub record WatchFrom : Type 0 where
-  pub kind : ℕ
-  pub namespace : Option (List ℕ)
-  pub requirements : List Requirement
-  pub position : ℕ
-  pub initial : InitialEvents
-  pub bookmarks : Bool
-  pub timeout : ℕ
 
 -- ---- the cursor of a watch that nothing was sent on
 

@@ -13,11 +13,9 @@ use Rattle.lists.specs.Views.{start_of}
 use Rattle.watchline.specs.declared.seen.SeenKind.{SeenKind as TheSeenKind}
 use Rattle.watchline.specs.declared.seen.SeenKind.TheVariants as kind
 use Rattle.watchline.specs.declared.seen.Seen.{Seen as TheSeen}
-use Rattle.watchline.specs.declared.opening.WatchFrom.{WatchFrom as TheWatchFrom}
 use Rattle.watchline.specs.declared.cursor.WatchScope.{WatchScope as TheScope}
 use Rattle.watchline.specs.declared.cursor.Progress.{Progress as TheProgress}
 use Rattle.watchline.specs.declared.cursor.Pumped.{Pumped as ThePumped}
-use Rattle.watchline.specs.Opening.{WatchFrom}
 use Rattle.watchline.specs.Watches.{Cursor, InitialLeft, no_initial_left, initial_left_from, entries_left, Turn, BookmarkTurn}
 
 -- ---- what is seen of a change
@@ -36,17 +34,6 @@ seen_list None = []
 seen_list (Some s) = seen_change_of s ∷ []
 
 -- ---- watches
-
-abbrev pub watch_from : TheWatchFrom → WatchFrom
-watch_from f = record {
-  kind = f.kind;
-  namespace = option_map string_bytes f.namespace;
-  requirements = f.selector;
-  position = f.position;
-  initial = f.initial;
-  bookmarks = f.bookmarks;
-  timeout = f.timeout;
-}
 
 abbrev pub initial_left_of : Option Start → InitialLeft
 initial_left_of None = no_initial_left

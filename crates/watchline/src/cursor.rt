@@ -1,13 +1,14 @@
 //! The cursor of a watch: its selection and its position, and the calls on it. What a pump sends stands in `sending`.
 
 ghost use Rattle.std.specs.Prelude.{◌≡◌, false, IfOk, IfSome, IsTrue, None, Ok, OnErr, Some, is_some, nat_lt, option_map, string_bytes};
+ghost use Rattle.answers.specs.Views.{watch_from};
 ghost use Rattle.watchline.specs.Opening.{first_cursor, left_of, sent_of};
 ghost use Rattle.watchline.specs.Watches.{bookmarked, from_view, is_bookmark_due, is_none_left, moved, pumped, with_bookmarks};
-ghost use Rattle.watchline.specs.Views.{initial_left_of, bookmark_turn, turn_of, watch_from};
+ghost use Rattle.watchline.specs.Views.{initial_left_of, bookmark_turn, turn_of};
 
 use crate::lines::bookmark_line;
-use crate::opening::{InitialEvents, WatchFrom};
 use crate::sending::{expired, next_turn};
+use answers::{InitialEvents, WatchFrom};
 use json_values::copied;
 use lists::{Collection, LabelCache, Start};
 use revstore::Store;

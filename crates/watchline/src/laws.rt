@@ -5,8 +5,9 @@ ghost use Rattle.std.specs.Prelude.{◌≡◌, ◌≤◌, ◌⊎◌, ℕ, List, 
 ghost use Rattle.history.specs.History.{History, IsHistory, Key, written};
 ghost use Rattle.history.specs.Seen.{seen_changes};
 ghost use Rattle.history.specs.View.{view};
+ghost use Rattle.answers.specs.WatchFrom.{WatchFrom};
 ghost use Rattle.watchline.specs.Lines.{line_of};
-ghost use Rattle.watchline.specs.Opening.{WatchFrom, first_cursor};
+ghost use Rattle.watchline.specs.Opening.{first_cursor};
 ghost use Rattle.watchline.specs.TurnLaws.{SkipsNothing, after_turns, lines_by, room_of};
 ghost use Rattle.watchline.specs.Watches.{Cursor, bookmarked, changes_sent, coming, from_history, from_view, pumped, wanted};
 

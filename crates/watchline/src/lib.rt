@@ -7,8 +7,8 @@
 //! call that fails leaves the cursor where it stood. Where two cursors stand alike, the lines of one are the other's,
 //! which then moves to where the first stands.
 //!
-//! Stands on `history` for what is seen, `revstore` for the changes, `lists` for the objects and their labels,
-//! `json_values` for the parts of an object's value and for copies.
+//! Stands on `history` for what is seen, `revstore` for the changes, `lists` for the objects and their labels, `answers`
+//! for what a watch begins from and for Status objects, `json_values` for the parts of an object's value and for copies.
 #![tactic(auto)]
 
 mod batches;
@@ -27,6 +27,6 @@ pub use cursor::{Pumped, ResumePoint, WatchCursor};
 pub use event::EventType;
 pub use laws::{positions_skip_nothing, turns_send_in_order, watches_by_views};
 pub use lines::line;
-pub use opening::{InitialEvents, WatchFrom, start_watch};
-pub use status::{EXPIRED, GONE, expired_message, status_value};
+pub use opening::start_watch;
+pub use status::expired_message;
 pub use version::text_at_version;

@@ -3,10 +3,11 @@
 ghost use Rattle.std.specs.Prelude.{◌≡◌, IfOk};
 ghost use Rattle.lists.specs.Views.{Returns, collection_of};
 ghost use Rattle.params.specs.Views.{values_of, watch_view};
+ghost use Rattle.answers.specs.Views.{watch_from};
 ghost use Rattle.watchline.specs.Opening.{initial_in, started, starts};
 ghost use Rattle.watchline.specs.Watches.{from_view};
-ghost use Rattle.watchline.specs.Views.{watch_from};
 
+use answers::{InitialEvents, WatchFrom};
 use json_values::copied;
 use lists::{Collection, ListFault, Refusal, Selected, Start, selected_page};
 use params::{Params, Watch};
@@ -14,34 +15,6 @@ use revstore::Store;
 use revtable::Fault;
 use selector::Selector;
 use std::alloc::Global;
-
-/// What a watch sends first.
-#[derive(Clone, Copy, Debug, PartialEq, Eq)]
-pub enum InitialEvents {
-    /// It names a version: the changes after it alone.
-    Changes,
-    /// It names none, and objects of it stand: each as added.
-    Objects,
-    /// It names none, and no object of it stands.
-    NoneSelected,
-}
-
-/// What a watch begins from.
-#[derive(Debug, Drop)]
-pub struct WatchFrom {
-    /// The number of the type.
-    pub kind: u32,
-    /// None over all namespaces.
-    pub namespace: Option<String>,
-    pub selector: Selector,
-    /// The revision after which changes are sent.
-    pub position: u64,
-    pub initial: InitialEvents,
-    /// Whether it sends bookmarks.
-    pub bookmarks: bool,
-    /// In seconds; 0 is none.
-    pub timeout: u64,
-}
 
 /// Whether objects of the watch stand now.
 fn initial_in(

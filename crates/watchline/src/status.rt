@@ -1,40 +1,12 @@
-//! A failure's Status, and the one that ends a watch. The refusals of calls, which are reported by such a Status too, stand in
-//! the crate `verbs`.
+//! The Status that ends a watch. The refusals of calls, which are reported by a Status too, stand in the crate
+//! `api_request`.
 
 ghost use Rattle.std.specs.Prelude.{◌≡◌, IfOk, string_bytes};
-ghost use Rattle.serde_json.specs.View.{view};
 ghost use Rattle.serde_json.specs.Written.{compact_text};
 ghost use Rattle.watchline.specs.Lines.{expired_message, expired_value};
-ghost use Rattle.watchline.specs.Status.{status_value};
 
-use serde_json::{Value, json};
+use answers::{EXPIRED, GONE, status_value};
 use std::alloc::{AllocError, Global};
-
-/// The code of what is no longer kept (RFC 9110, section 15.5.11).
-pub const GONE: u16 = 410;
-
-/// The reason where changes were forgotten (Kubernetes API Concepts, "410 Gone responses").
-pub const EXPIRED: &str = "Expired";
-
-/// The Status object that reports a failure (Kubernetes API conventions, "Response Status Kind").
-pub fn status_value(
-    alloc: Global,
-    code: u16,
-    reason: &str,
-    message: &str,
-) -> Result<Value, AllocError>
-    ensures { IfOk result (λ v. view v ≡ status_value code reason.now message.now) }
-{
-    json!(in alloc; {
-        "apiVersion": "v1",
-        "code": code,
-        "kind": "Status",
-        "message": message,
-        "metadata": {},
-        "reason": reason,
-        "status": "Failure"
-    })
-}
 
 /// The message of the Status that ends a watch: changes after this revision were forgotten, up to the compacted number.
 pub fn expired_message(alloc: Global, revision: u64, compacted: u64) -> Result<String, AllocError>

@@ -3,7 +3,7 @@ use Rattle.std.proofs.Common.{◌≡◌, ℕ, Bool, true, false, cond, List, ◌
 use Rattle.std.specs.FinMap as fin
 use Rattle.api_request.specs.Calls.{Answer, Call, Denied}
 use Rattle.verbs.specs.Step.{planned}
-use Rattle.watchline.specs.Opening.{WatchFrom}
+use Rattle.answers.specs.WatchFrom.{WatchFrom}
 use Rattle.requests.specs.Asks.{Asks, CallDecision}
 use Rattle.requests.specs.Decision.{accepted, refused, undecided}
 use Rattle.requests.specs.Replies.{answer_bytes, answer_reply, refusal_reply}

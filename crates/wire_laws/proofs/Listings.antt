@@ -16,8 +16,8 @@ use Rattle.lists.specs.Body.{Collection, list_text}
 use Rattle.lists.specs.Lists.{list_of, page_of, text_at}
 use Rattle.lists.specs.Revision.{revision_of}
 use Rattle.decoder.specs.Wanted.{Wanted}
-use Rattle.watchline.specs.declared.opening.InitialEvents.{InitialEvents}
-use Rattle.watchline.specs.declared.opening.InitialEvents.TheVariants.{Changes}
+use Rattle.answers.specs.declared.watch_from.InitialEvents.{InitialEvents}
+use Rattle.answers.specs.declared.watch_from.InitialEvents.TheVariants.{Changes}
 use Rattle.watchline.specs.Opening.{from_parts, initial_in, opened_by, starts}
 use Rattle.watchline.specs.Watches.{from_history}
 use Rattle.line_laws.specs.Listed.{AreKept, IsKept, IsReadAsPage, IsWanted}

@@ -4,7 +4,7 @@ use Rattle.std.specs.Prelude.{◌==◌, is_some, nat_lt, option_map}
 use Rattle.std.specs.FinMap as fin
 use Rattle.api_request.specs.Calls.{Answer, Call}
 use Rattle.verbs.specs.Step.{planned}
-use Rattle.watchline.specs.Opening.{WatchFrom}
+use Rattle.answers.specs.WatchFrom.{WatchFrom}
 use Rattle.requests.specs.Asks.{Asks}
 use Rattle.httpedge.specs.Connections.{Connection, Phase, waiting, watching, with_written}
 use Rattle.requests.specs.Decision.{accepted}

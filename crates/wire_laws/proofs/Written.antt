@@ -29,7 +29,8 @@ use Rattle.lists.specs.declared.refusal.Refusal.{Refusal as ListRefusal}
 use Rattle.lists.specs.Body.{Collection}
 use Rattle.lists.specs.Lists.{list_of}
 use Rattle.params.specs.Values.{Values, Watch}
-use Rattle.watchline.specs.Opening.{WatchFrom, started}
+use Rattle.answers.specs.WatchFrom.{WatchFrom}
+use Rattle.watchline.specs.Opening.{started}
 use Rattle.watchline.specs.Watches.{HistoryWindow, from_history}
 use Rattle.params.specs.declared.params.Asked.TheVariants as asked
 use Rattle.api_validation.specs.Envelope.{api_version_of}

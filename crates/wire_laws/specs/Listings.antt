@@ -6,8 +6,9 @@ use Rattle.params.specs.Values.{Values, Watch}
 use Rattle.params.specs.declared.params.Asked.TheVariants as asked
 use Rattle.lists.specs.Body.{Collection}
 use Rattle.api_request.specs.declared.method.Method.TheVariants.{Get}
-use Rattle.watchline.specs.Opening.{WatchFrom, from_parts}
-use Rattle.watchline.specs.declared.opening.InitialEvents.TheVariants.{Changes}
+use Rattle.answers.specs.WatchFrom.{WatchFrom}
+use Rattle.watchline.specs.Opening.{from_parts}
+use Rattle.answers.specs.declared.watch_from.InitialEvents.TheVariants.{Changes}
 use Rattle.api_request.specs.Calls.{Call, Plan}
 use Rattle.api_validation.specs.Parameters.{parameters_validated}
 use Rattle.verbs.specs.Step.{collection_of}

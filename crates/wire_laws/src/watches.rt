@@ -7,7 +7,7 @@ ghost use Rattle.http.specs.StatusCode.{IsStatusCode};
 ghost use Rattle.api_request.specs.Calls.{Call};
 ghost use Rattle.verbs.specs.Step.{planned};
 ghost use Rattle.watchline.specs.Lines.{line};
-ghost use Rattle.watchline.specs.Opening.{WatchFrom};
+ghost use Rattle.answers.specs.WatchFrom.{WatchFrom};
 ghost use Rattle.watchline.specs.declared.event.EventType.{EventType};
 ghost use Rattle.requests.specs.Asks.{Asks};
 ghost use Rattle.httpedge.specs.Connections.{Connection, ended_on, waiting, watching, watching_on, with_written, written_on};

@@ -8,7 +8,7 @@ use Rattle.api_request.specs.Calls.{Answer, Call}
 use Rattle.verbs.specs.Machine.{IsMachine}
 use Rattle.api_request.specs.Reasons.{code_of}
 use Rattle.verbs.specs.Step.{planned}
-use Rattle.watchline.specs.Opening.{WatchFrom}
+use Rattle.answers.specs.WatchFrom.{WatchFrom}
 use Rattle.requests.proofs.Deciding.{asks_one}
 use Rattle.requests.specs.Asks.{Asks, CallDecision}
 use Rattle.requests.specs.Decision.{accepted}

@@ -5,9 +5,9 @@ use Rattle.api_types.specs.TypesFile.{ServedShape}
 use Rattle.history.specs.History.{History}
 use Rattle.params.specs.Values.{Values, no_values}
 use Rattle.params.specs.Values as params
-use Rattle.watchline.specs.Opening.{WatchFrom}
+use Rattle.answers.specs.WatchFrom.{WatchFrom}
 use Rattle.watchline.specs.Watches.{no_initial_left}
-use Rattle.watchline.specs.declared.opening.InitialEvents.TheVariants.{Changes}
+use Rattle.answers.specs.declared.watch_from.InitialEvents.TheVariants.{Changes}
 use Rattle.api_request.specs.Calls.{Call}
 use Rattle.verbs.specs.Step.{planned}
 use Rattle.requests.specs.Asks.{Asks}

@@ -1,7 +1,7 @@
 use Rattle.std.proofs.Common.{ℕ, List, None, sym, ap, ◌∙◌}
 use Rattle.std.specs.Prelude.{option_map}
 use Rattle.std.proofs.lemmas.Result.{IfOk-weaker}
-use Rattle.watchline.specs.Views.{watch_from}
+use Rattle.answers.specs.Views.{watch_from}
 use Rattle.api_request.specs.Views.{answer_of}
 use Rattle.requests.specs.ReplyBytes.{reply}
 use Rattle.requests.specs.Replies.{answer_bytes}

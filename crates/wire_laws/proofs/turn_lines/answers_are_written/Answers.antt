@@ -1,5 +1,5 @@
 use Rattle.std.proofs.Common.{Option, subst, sym}
-use Rattle.watchline.specs.Opening.{WatchFrom}
+use Rattle.answers.specs.WatchFrom.{WatchFrom}
 use Rattle.verbs.specs.Step.{planned}
 use Rattle.requests.specs.Replies.{answer_bytes}
 use Rattle.wireclient.specs.Reads.{Items}

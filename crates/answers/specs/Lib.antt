@@ -1,0 +1,3 @@
+pub mod Status
+pub mod WatchFrom
+pub mod Views
