@@ -115,8 +115,8 @@ path_parameter name =
 -- those of an apply
 abbrev pub query_parameters : Items
 query_parameters =
-    item (query_parameter (codes "fieldManager") (codes "string")) (item (query_parameter (codes "fieldValidation") (codes "string"))
-    (item (query_parameter (codes "force") (codes "boolean")) no_items))
+    item (query_parameter (codes "dryRun") (codes "string")) (item (query_parameter (codes "fieldManager") (codes "string"))
+    (item (query_parameter (codes "fieldValidation") (codes "string")) (item (query_parameter (codes "force") (codes "boolean")) no_items)))
 
 -- the PATCH of an object, by which clients find out which parameters are taken
 abbrev pub patch_operation : ServedShape → Json

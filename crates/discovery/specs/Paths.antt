@@ -1,4 +1,4 @@
--- Which path has which document, and what a request of a document comes to
+-- Which path has which document
 -- (Kubernetes docs, "The Kubernetes API", "Discovery API", "OpenAPI V3"; RFC 9110, section 15.5.6).
 use Rattle.std.specs.Prelude.{ℕ, List, [], ◌∷◌, ◌++◌, Option, Some, None, option_map, if◌then◌else◌, codes}
 use Rattle.std.specs.Str.{bytes_eq}
@@ -83,22 +83,3 @@ document_in types path = if are_discovered types then document_at types path els
 -- its text
 abbrev pub text_in : List ServedShape → List ℕ → Option (List ℕ)
 text_in types path = option_map (text_of types) (document_in types path)
-
--- ---- requests
-
--- a document's text, or a method that none is served by
-pub data Discovered : Type 0 where
-  shown : List ℕ → Discovered
-  other_method : Discovered
-
--- documents are served by this method alone; as it stands in `Allow`
-abbrev pub allowed : List ℕ
-allowed = codes "GET"
-
--- what a method comes to where there is a document
-abbrev pub discovered_by : List ServedShape → List ℕ → Document → Discovered
-discovered_by types method document = if bytes_eq method allowed then shown (text_of types document) else other_method
-
--- what a method and a path come to, of these types; nothing where the path has no document
-abbrev pub discovered : List ServedShape → List ℕ → List ℕ → Option Discovered
-discovered types method path = option_map (discovered_by types method) (document_at types path)

@@ -1,11 +1,8 @@
--- What contracts see of documents and of what a request of one comes to.
-use Rattle.std.specs.Prelude.{string_bytes}
+-- What contracts see of documents.
 use Rattle.api_types.specs.ServedViews.{served}
 use Rattle.discovery.specs.Paths as paths
 use Rattle.discovery.specs.declared.document.Document.{Document}
 use Rattle.discovery.specs.declared.document.Document.TheVariants as document
-use Rattle.discovery.specs.declared.discovered.Discovered.{Discovered}
-use Rattle.discovery.specs.declared.discovered.Discovered.TheVariants as seen
 
 -- the document that a value of the code names
 abbrev pub document_of : Document → paths.Document
@@ -16,8 +13,3 @@ document_of (document.OfGroup t) = paths.of_group (served t.now)
 document_of (document.OfVersion t) = paths.of_version (served t.now)
 document_of document.OfOpenApi = paths.of_open_api
 document_of (document.OfVersionOpenApi t) = paths.of_version_open_api (served t.now)
-
--- what the code answers
-abbrev pub discovered_of : Discovered → paths.Discovered
-discovered_of (seen.Shown text) = paths.shown (string_bytes text)
-discovered_of seen.OtherMethod = paths.other_method

@@ -1,4 +1,4 @@
-//! Discovery: the documents by which a client finds out which types are served, and what a request of one comes to. Types,
+//! Discovery: the documents by which a client finds out which types are served. What a request of one comes to is `verbs`'; types,
 //! their file, and whether documents tell of them are `api_types`'; requests are read by who has them.
 //!
 //! Promises: the text of each document is that of its definition, of the types as they are given; a path has at most one,
@@ -20,5 +20,5 @@ mod status;
 mod type_schema;
 mod version;
 
-pub use discovered::{Discovered, discover, document_in, text_in};
+pub use discovered::{document_in, text_in};
 pub use document::{Document, document_at, text};

@@ -87,6 +87,7 @@ fn put_path_parameter(writer: &mut Writer, name: &str) -> Result<(), AllocError>
 fn put_query_parameters(writer: &mut Writer) -> Result<(), AllocError>
     ensures { OnOk result (Adds (items_tokens query_parameters) writer.old writer.new) }
 {
+    put_query_parameter(writer, "dryRun", "string")?;
     put_query_parameter(writer, "fieldManager", "string")?;
     put_query_parameter(writer, "fieldValidation", "string")?;
     put_query_parameter(writer, "force", "boolean")?;

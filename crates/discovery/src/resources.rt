@@ -1,4 +1,4 @@
-//! The document of a version: its resources, and what is served of each. Groups stand in `groups`, schemas in `open_api`.
+//! The document of a version: its resources, and what is served of each. Groups stand in `groups`, schemas in `type_schema`.
 ghost use Rattle.std.specs.Prelude.{OnOk, true, ◌∷◌, ◌++◌, [], codes, map};
 ghost use Rattle.json.specs.Json.{item};
 ghost use Rattle.json.specs.Token.{begin_array, begin_object, boolean, end_object, key, string};

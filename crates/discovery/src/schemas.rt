@@ -1,4 +1,4 @@
-//! Schemas as OpenAPI has them, printed of what was read. The schema of a type has more, and stands in `open_api`.
+//! Schemas as OpenAPI has them, printed of what was read. The schema of a type has more, and stands in `type_schema`.
 ghost use Rattle.std.specs.Prelude.{OnOk, [], ◌∷◌, codes};
 ghost use Rattle.json.specs.Token.{begin_object, key, string};
 ghost use Rattle.json.specs.Tree.{members_tokens};

@@ -1,8 +1,7 @@
 -- What selectors see of an object, and how a text asks for its name (Kubernetes documentation, "Field Selectors").
-use Rattle.std.specs.Prelude.{◌≡◌, ℕ, Bool, if◌then◌else◌, List, [], ◌∷◌, drop, length, Option, Some, None, option_map, codes}
-use Rattle.std.specs.List.{list_any}
+use Rattle.std.specs.Prelude.{◌≡◌, ◌==◌, ◌&&◌, not, ℕ, Bool, if◌then◌else◌, List, [], ◌∷◌, drop, length, Option, Some, None, option_map, codes}
+use Rattle.std.specs.List.{list_all, list_any}
 use Rattle.std.specs.Str.{bytes_eq}
-use Rattle.names.specs.Names.{is_dns_subdomain}
 use Rattle.selector.specs.Grammar.{Sign, equal, different, begins_with, sign_at}
 use Rattle.selector.specs.Labels.{Labels}
 use Rattle.selector.specs.Requirement.{Condition, equals, differs, Requirement, selects}
@@ -29,9 +28,16 @@ LabelsDecide requirements = (name : Option (List ℕ)) (labels : Labels) → sel
 abbrev pub name_path : List ℕ
 name_path = codes "metadata.name"
 
--- a name that an object can have
+-- no comma, equals sign or backslash: these would have to be escaped
+abbrev pub is_plain : ℕ → Bool
+is_plain byte = not (byte == 44) && not (byte == 61) && not (byte == 92)
+
+abbrev pub is_plain_text : List ℕ → Bool
+is_plain_text text = list_all is_plain text
+
+-- any such text, also one that no object has as its name
 abbrev pub name_of : List ℕ → Option (List ℕ)
-name_of text = if is_dns_subdomain text then Some text else None
+name_of text = if is_plain_text text then Some text else None
 
 abbrev pub name_asked : Option (Sign × List ℕ) → Option Condition
 name_asked None = None

@@ -1,19 +1,32 @@
 //! Field selectors: how a text asks for an object's name. What is asked of labels is read in `requirement`.
 
 ghost use Rattle.std.specs.Prelude.{◌≡◌, IfOk, option_map, string_bytes};
-ghost use Rattle.selector.specs.Fields.{field_of, name_asked, name_of};
+ghost use Rattle.selector.specs.Fields.{field_of, is_plain, is_plain_text, name_asked, name_of};
 ghost use Rattle.selector.specs.Grammar.{sign_at};
 ghost use Rattle.selector.specs.Views.{condition_of, requirement_of};
 
 use crate::requirement::{Condition, NAME_KEY, Requirement};
-use names::is_dns_subdomain;
 use std::alloc::{AllocError, Global};
 
-/// A name that an object can have.
+/// Whether a byte stands for itself: a comma, an equals sign and a backslash would have to be escaped.
+fn is_plain(byte: u8) -> bool
+    ensures { result ≡ is_plain byte }
+{
+    byte != b',' && byte != b'=' && byte != b'\\'
+}
+
+/// Whether every byte of a text stands for itself.
+fn is_plain_text(text: &str) -> bool
+    ensures { result ≡ is_plain_text text.now }
+{
+    text.as_bytes().iter().all(|byte| is_plain(*byte))
+}
+
+/// A name that is asked for, also one that no object has.
 fn name_of(alloc: Global, text: &str) -> Result<Option<String>, AllocError>
     ensures { IfOk result (λ n. option_map string_bytes n ≡ name_of text.now) }
 {
-    if !is_dns_subdomain(text) {
+    if !is_plain_text(text) {
         return Ok(None);
     }
     Ok(Some(String::from_str(alloc, text)?))

@@ -60,8 +60,9 @@ impl Selector {
         Ok(Selector { requirements })
     }
 
-    /// Reads `metadata.name=NAME`, also with `==` or `!=`, of a name that an object can have; the empty text selects every object.
-    /// None of any other text (Kubernetes documentation, "Field Selectors").
+    /// Reads `metadata.name=NAME`, also with `==` or `!=`; the empty text selects every object. `NAME` is any text, also one that no
+    /// object has, but for commas, equals signs and backslashes. None of any other text (Kubernetes documentation, "Field
+    /// Selectors").
     pub fn read_fields(alloc: Global, text: &str) -> Result<Option<Selector>, AllocError>
         ensures { IfOk result (λ s. s ≡ fields_of text.now) }
     {
