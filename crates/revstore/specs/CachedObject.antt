@@ -9,7 +9,7 @@ use Rattle.revstore.specs.declared.cached.ObjectCache.{ObjectCache}
 
 -- a sum of bytes, each weighed by its place
 abbrev pub next_sum : ℕ → ℕ → ℕ
-next_sum sum byte = (sum * 31 % 2 ^ 32 + byte) % 2 ^ 32
+next_sum sum byte = (sum * 37 % 2 ^ 32 + byte) % 2 ^ 32
 
 -- the sum of a text's bytes, from a number on
 abbrev pub sum_of : ℕ → List ℕ → ℕ

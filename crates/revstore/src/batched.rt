@@ -1,7 +1,7 @@
 //! A table with the window of the latest changes in front of it: a write puts its change there, and those that wait are written
 //! together, where the table itself is asked, or where too many wait.
 
-ghost use Rattle.std.specs.Prelude.{◌≡◌, suc, ◌+◌, ◌-◌, ◌≤◌, true, false, [], length, map, IfOk, IfSome, OnOk, OnErr, None, option_map};
+ghost use Rattle.std.specs.Prelude.{◌≡◌, suc, ◌+◌, ◌-◌, ◌≤◌, true, false, [], is_some, length, map, IfOk, IfSome, OnOk, OnErr, None, option_map};
 ghost use Rattle.std.specs.FinMap as fin;
 ghost use Rattle.std.specs.List.{list_any};
 ghost use Rattle.std.specs.Rc.{rc_str_bytes};
@@ -19,8 +19,8 @@ ghost use Rattle.revstore.specs.Waiting.{CanFollow, is_key, waiting_in, waiting_
 use crate::copies::copy_of_object;
 use crate::shared::{SharedObject, shared_object};
 use crate::window::{
-    ChangeWindow, Latest, count, is_full, is_waiting, known_before, known_changes, once_compacted,
-    push_change, remember_before, waiting_writes,
+    ChangeWindow, Latest, count, is_full, is_waiting, known_before, known_changes, known_to_stand,
+    once_compacted, push_change, remember_before, waiting_writes,
 };
 use history::{Change, Entry, Key, Marks, Object, Write};
 use revtable::{Fault, Keep, Table};
@@ -220,6 +220,18 @@ impl BatchedTable {
         let copy = copy_of_object(*key.namespace.allocator(), &before)?;
         remember_before(&mut self.window, key, revision, before);
         Ok(copy)
+    }
+
+    /// Whether an object stood under a key just before a revision.
+    pub(crate) fn stood_before(&mut self, key: &Key, revision: u64) -> Result<bool, Fault>
+        ensures ok { IfOk result (λ b. b ≡ is_some (fin.get (state_at self.old.changes (revision - 1)) (key_of key.now))) }
+        ensures same { self.new ≡ self.old }
+    {
+        if let Some(stood) = known_to_stand(&self.window, key, revision) {
+            return Ok(stood);
+        }
+        let before = self.latest_before(key, revision)?;
+        Ok(before.is_some())
     }
 
     /// The first `max` objects of a type at a revision, in the order of namespace and name: of one namespace or

@@ -1,5 +1,5 @@
 //! The store and its calls. How changes are kept stands in `revtable`.
-ghost use Rattle.std.specs.Prelude.{◌≡◌, ◌↔◌, suc, ◌+◌, ◌-◌, ◌<◌, ◌≤◌, true, length, map, Err, IfOk, OnOk, OnErr, None, option_map};
+ghost use Rattle.std.specs.Prelude.{◌≡◌, ◌↔◌, suc, ◌+◌, ◌-◌, ◌<◌, ◌≤◌, true, is_some, length, map, Err, IfOk, OnOk, OnErr, None, option_map};
 ghost use Rattle.std.specs.FinMap as fin;
 ghost use Rattle.history.specs.History.{last_revision, later};
 ghost use Rattle.history.specs.Page.{changes_within, listed, page, picked};
@@ -217,6 +217,16 @@ impl Store {
         ensures same { self.new ≡ self.old }
     {
         self.table.latest_before(key, revision)
+    }
+
+    /// Whether an object stood under a key just before a revision: `before` without a copy.
+    pub fn stood_before(&mut self, key: &Key, revision: u64) -> Result<bool, Fault>
+        requires above { self.old.compacted < revision }
+        requires known { revision ≤ self.old.current }
+        ensures ok { IfOk result (λ b. b ≡ is_some (fin.get (state_in self.old (revision - 1)) (key_of key.now))) }
+        ensures same { self.new ≡ self.old }
+    {
+        self.table.stood_before(key, revision)
     }
 
     /// Forgets what no answer from this revision on can show.

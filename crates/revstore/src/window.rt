@@ -1,7 +1,7 @@
 //! The latest changes, and what stood before each. A store keeps them in front of its table, so that many who ask for one change
 //! ask no statement each, and so that several changes are written together. What stands now is found by `cached`.
 
-ghost use Rattle.std.specs.Prelude.{◌≡◌, ◌++◌, ◌∷◌, [], ℕ, suc, ◌-◌, IfOk, IfSome, IsTrue, OnOk, OnErr, drop, length, map, option_map};
+ghost use Rattle.std.specs.Prelude.{◌≡◌, ◌++◌, ◌∷◌, [], ℕ, suc, ◌-◌, IfOk, IfSome, IsTrue, OnOk, OnErr, drop, is_some, length, map, option_map};
 ghost use Rattle.std.specs.FinMap as fin;
 ghost use Rattle.std.specs.List.{list_any};
 ghost use Rattle.std.specs.Rc.{rc_str_bytes};
@@ -352,6 +352,22 @@ impl ChangeWindow {
         }
     }
 
+    /// Whether an object stood under a key just before a revision, where the change of that revision is one of the key's and it is
+    /// known.
+    fn stood(&self, key: &Key, revision: u64) -> Option<bool>
+        ensures { (h : History) → AreLatest h self.now
+            → IfSome result (λ b. b ≡ is_some (fin.get (state_at h.changes (revision - 1)) (key_of key.now))) }
+    {
+        let latest = self.latest.get(self.place_of(revision))?;
+        if !latest.is_of(key, revision) {
+            return None;
+        }
+        match &latest.before {
+            Some(before) => Some(before.is_some()),
+            None => None,
+        }
+    }
+
     /// Puts aside what stood under a key just before a revision, where the change of that revision is one of the key's and
     /// there is room.
     fn remember(&mut self, key: &Key, revision: u64, before: Option<SharedObject>)
@@ -483,6 +499,21 @@ pub(crate) fn known_before(
     match window {
         Some(window) => Ok(window.before(key, revision)?),
         None => Ok(None),
+    }
+}
+
+/// Whether an object stood under a key just before a revision, where that is known.
+pub(crate) fn known_to_stand(
+    window: &Option<ChangeWindow>,
+    key: &Key,
+    revision: u64,
+) -> Option<bool>
+    ensures { (h : History) → IfSome window.now (AreLatest h)
+        → IfSome result (λ b. b ≡ is_some (fin.get (state_at h.changes (revision - 1)) (key_of key.now))) }
+{
+    match window {
+        Some(window) => window.stood(key, revision),
+        None => None,
     }
 }
 

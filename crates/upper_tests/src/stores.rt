@@ -11,6 +11,7 @@
 //! | `many KEY COUNT LENGTH` | so many changes of a key are made, each with a text of so many bytes; the current revision |
 //! | `again CALL KEY WORD` | whether it is done between marks, where what waits to be written still waits; where it failed it is made again |
 //! | `get KEY`, `before KEY REVISION` | what stands under the key, or stood before the revision, which is one that has come and isn't compacted |
+//! | `stood KEY REVISION` | whether something stood there before the revision |
 //! | `list REVISION`, `changes REVISION` | the objects that stand at it; the changes that came in `default` after it |
 //! | `kept REVISION MAX` | the first objects there that have a text of one byte, at most so many; how many texts were looked at |
 //! | `numbers`, `seen` | the current and the compacted revision; all that there is to be seen |
@@ -41,6 +42,15 @@ fn before(store: &mut Store, key: &Key, revision: u64) -> Result<Option<Object>,
         store.before(key, revision)
     } else {
         Ok(None)
+    }
+}
+
+/// Whether something stood before a revision, if that is one that has come and isn't compacted.
+fn stood(store: &mut Store, key: &Key, revision: u64) -> Result<bool, Fault> {
+    if store.compacted() < revision && revision <= store.current() {
+        store.stood_before(key, revision)
+    } else {
+        Ok(false)
     }
 }
 
@@ -138,6 +148,7 @@ fn answer_of_key(
         "erase" => in_words(alloc, erase(store, key)),
         "get" => in_words(alloc, store.get(key)),
         "before" => in_words(alloc, before(store, key, number(word)?)),
+        "stood" => in_words(alloc, stood(store, key, number(word)?)),
         _ => Err("no such call".into()),
     }
 }
@@ -237,6 +248,8 @@ erase w1 => Ok(true)
 get w1 => Ok(None)
 changes 1 => Ok([Change { revision: 2, key: Key { kind: 7, namespace: "default", name: "w1" }, body: Some("a") }, Change { revision: 3, key: Key { kind: 7, namespace: "default", name: "w1" }, body: Some("b") }, Change { revision: 4, key: Key { kind: 7, namespace: "default", name: "w1" }, body: None }])
 before w1 4 => Ok(Some(Object { revision: 3, body: "b" }))
+stood w1 4 => Ok(true)
+stood w1 2 => Ok(false)
 compact 4 => Ok(())
 numbers => (4, 4)
 changes 3 => Err(Expired)
@@ -286,6 +299,7 @@ numbers => (66, 1)
 list 65 => Ok([Entry { key: Key { kind: 7, namespace: "default", name: "a" }, object: Object { revision: 65, body: "m" } }])
 list 66 => Ok([Entry { key: Key { kind: 7, namespace: "default", name: "a" }, object: Object { revision: 65, body: "m" } }, Entry { key: Key { kind: 7, namespace: "default", name: "b" }, object: Object { revision: 66, body: "b66" } }])
 before a 65 => Ok(Some(Object { revision: 64, body: "m" }))
+stood a 65 => Ok(true)
 both c c => Ok(68)
 changes 63 => Ok([Change { revision: 64, key: Key { kind: 7, namespace: "default", name: "a" }, body: Some("m") }, Change { revision: 65, key: Key { kind: 7, namespace: "default", name: "a" }, body: Some("m") }, Change { revision: 66, key: Key { kind: 7, namespace: "default", name: "b" }, body: Some("b66") }, Change { revision: 67, key: Key { kind: 7, namespace: "default", name: "c" }, body: Some("c") }])"#;
 
