@@ -1,5 +1,5 @@
 -- Watches that stand alike have the same turn.
-use Rattle.std.proofs.Common.{◌≡◌, ℕ, zero, suc, Bool, true, false, true≢false, cond, List, ◌++◌, Option, None, refl, sym, ap, ap₂, subst, ◌∙◌}
+use Rattle.std.proofs.Common.{◌≡◌, ℕ, zero, suc, Bool, true, false, true≢false, cond, List, ◌++◌, length, Option, None, refl, sym, ap, ap₂, subst, ◌∙◌}
 use Rattle.std.specs.Prelude.{nat_lt, is_some, IfSome}
 use Rattle.history.specs.History.{History, Key, Object}
 use Rattle.watchline.specs.Views.{lines_in, turn_of}
@@ -8,6 +8,8 @@ use Rattle.watchline.specs.declared.cursor.ResumePoint.{ResumePoint}
 use Rattle.watchline.specs.declared.cursor.Pumped.{Pumped as ThePumped}
 use Rattle.requests.specs.ReplyBytes.{chunks}
 use Rattle.httpedge.specs.ConnectionViews.{Pumps}
+use Rattle.httpedge.specs.Effects.{lines_change}
+use Rattle.httpedge.specs.declared.effect.Change.{Change}
 use Rattle.httpedge.specs.SharedViews.{TurnSpan, IsTurnFrom}
 use Rattle.httpedge.specs.declared.shared.CachedTurn.{CachedTurn}
 
@@ -52,6 +54,13 @@ plain_stays s max w none = go (nat_lt w.position s.compacted)
 
 -- ---- the last turn
 
+abbrev pub turned : ℕ → ℕ → Bool → Change
+turned bytes lines has_ended = record { bytes = bytes; lines = lines; status = None; has_ended = has_ended }
+
+-- a change by counts of bytes and lines
+pub counted : (n k : ℕ) (bytes : List ℕ) (lines : List (List ℕ)) (has_ended : Bool) → n ≡ length bytes → k ≡ length lines → turned n k has_ended ≡ lines_change bytes (length lines) has_ended
+counted n k bytes lines has_ended all each = ap₂ (λ (x y : ℕ). turned x y has_ended) all each
+
 none_left_by : (left : InitialLeft) → is_none_left left ≡ true → left ≡ no_initial_left
 none_left_by no_initial_left e = refl
 none_left_by (initial_left_from place) e = absurd (true≢false (sym e))
@@ -59,14 +68,18 @@ none_left_by (initial_left_from place) e = absurd (true≢false (sym e))
 -- what a watch told is the turn of its copy, moved to where it had told before
 pub is_last : (m : History) (last : CachedTurn) (w next : Cursor) (there : Option ResumePoint) (p : ThePumped) → turn_of p next ≡ pumped (from_history m) last.max w
     → IfSome there (λ r. (r.position ≡ w.position) × (r.sent ≡ w.sent)) → is_some there ≡ is_none_left w.left → TurnSpan there next last.before last.resume_point
-    → last.has_ended ≡ p.ended → last.bytes.items ≡ chunks (lines_in p.lines.items) p.ended → IsTurnFrom m last
-is_last m last w next there p sent stood some ends ended bytes = record {
+    → last.change ≡ lines_change (chunks (lines_in p.lines.items) p.ended) (length (lines_in p.lines.items)) p.ended → last.bytes.items ≡ chunks (lines_in p.lines.items) p.ended → IsTurnFrom m last
+is_last m last w next there p sent stood some ends did bytes = record {
   lines = lines_in p.lines.items;
   sent = was ∙ ap₂ (turn_with (lines_in p.lines.items)) (sym ended)
       (subst (λ (x : Cursor). Stays x next) (sym is) stays ∙ ap₂ (λ (x y : ℕ). moved last.before x y last.before.left) (sym ends.position) (sym ends.sent));
   bytes = bytes ∙ ap (chunks (lines_in p.lines.items)) (sym ended);
+  did = did ∙ ap (λ (b : Bool). lines_change (chunks (lines_in p.lines.items) b) (length (lines_in p.lines.items)) b) (sym ended);
 }
   where
+    ended : last.change.has_ended ≡ p.ended
+    ended = ap (λ (x : Change). x.has_ended) did
+
     none : w.left ≡ no_initial_left
     none = none_left_by w.left (sym some ∙ ap is_some ends.there_is)
 
@@ -84,13 +97,13 @@ is_last m last w next there p sent stood some ends ended bytes = record {
 
 -- a watch that stands alike has that turn
 pub repeats : (m : History) (last : CachedTurn) (max : ℕ) (w : Cursor) (old new : List ℕ) → IsTurnFrom m last → max ≡ last.max → w ≡ with_bookmarks last.before w.bookmarks → new ≡ old ++ last.bytes.items
-    → Pumps (pumped (from_history m) max w) last.has_ended (moved w last.resume_point.position last.resume_point.sent w.left) old new
+    → Pumps (pumped (from_history m) max w) last.change (moved w last.resume_point.position last.resume_point.sent w.left) old new
 repeats m last max w old new is same alike written =
-    subst (λ (t : Turn). Pumps t last.has_ended (moved w last.resume_point.position last.resume_point.sent w.left) old new) (sym turn)
-    (written ∙ ap (λ (b : List ℕ). old ++ b) is.bytes, refl, ap (λ (x : Cursor). moved x last.resume_point.position last.resume_point.sent x.left) alike)
+    subst (λ (t : Turn). Pumps t last.change (moved w last.resume_point.position last.resume_point.sent w.left) old new) (sym turn)
+    (written ∙ ap (λ (b : List ℕ). old ++ b) is.bytes, is.did, ap (λ (x : Cursor). moved x last.resume_point.position last.resume_point.sent x.left) alike)
   where
     then : Turn
-    then = turn_with is.lines last.has_ended (moved last.before last.resume_point.position last.resume_point.sent last.before.left)
+    then = turn_with is.lines last.change.has_ended (moved last.before last.resume_point.position last.resume_point.sent last.before.left)
 
     turn : pumped (from_history m) max w ≡ with_next then w.bookmarks
     turn = ap₂ (λ (n : ℕ) (x : Cursor). pumped (from_history m) n x) same alike ∙ pumped_alike (from_history m) last.max last.before w.bookmarks

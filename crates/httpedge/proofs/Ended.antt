@@ -1,10 +1,14 @@
 -- What an event does to a hub, by how the call of it ended.
-use Rattle.std.proofs.Common.{◌≡◌, ◌≢◌, ℕ, cond, List, [], ◌∷◌, ◌++◌, Option, Some, None, refl, sym, ap, subst}
-use Rattle.std.specs.Prelude.{is_some}
+use Rattle.std.proofs.Common.{◌≡◌, ◌≢◌, ℕ, cond, List, [], ◌∷◌, ◌++◌, Option, Some, None, Result, Ok, Err, refl, sym, ap, subst}
+use Rattle.std.specs.Prelude.{is_some, IfOk}
 use Rattle.std.specs.FinMap as fin
 use Rattle.httpedge.specs.declared.hub.Hub.{Hub}
 use Rattle.httpedge.specs.Connections.{Connection}
-use Rattle.httpedge.specs.HubViews.{StepsOrRefuses, IsActionOf, HubRepresents, Outcome, ReportsOutcome, done, refused, out_of_memory, refusal_in}
+use Rattle.httpedge.specs.declared.effect.Effect.{Effect}
+use Rattle.httpedge.specs.declared.fault.HubFault.{HubFault}
+use Rattle.httpedge.specs.declared.fault.HubFault.TheVariants as fault
+use Rattle.httpedge.specs.Effects.{Does}
+use Rattle.httpedge.specs.HubViews.{Handles, StepsOrRefuses, IsActionOf, HubRepresents, Outcome, ReportsOutcome, done, refused, out_of_memory, outcome_of, refusal_in}
 use Rattle.httpedge.specs.Runs.{Follows, Action, Runs, Steps, happens, runs_out_of_memory}
 use Rattle.httpedge.specs.Steps.{Event, Refusal, State, opens, comes, goes, pumps, ticks, compacts, retypes, applied_event, refusal, unknown_id, unless_refused}
 use Rattle.requests.specs.Decision.{undecided}
@@ -66,3 +70,38 @@ pub unchanged_in : (old new : Hub) (e : Event) (o : Outcome) → StepsOrRefuses 
 unchanged_in old new e done handles denied = absurd (denied refl)
 unchanged_in old new e (refused why) handles denied = handles.0
 unchanged_in old new e out_of_memory handles denied = absurd (denied refl)
+
+-- ---- with what it did
+
+-- without what it did
+steps_in : (s t : State) (e : Event) (x : Effect) → Does s e t x → Steps s e t
+steps_in s t e x (decision, asks, is, effect) = (decision, asks, is)
+
+pub handles_steps : (old new : Hub) (e : Event) (r : Result Effect HubFault) → Handles old e r new → StepsOrRefuses old e (outcome_of r) new
+handles_steps old new e (Ok x) handles = λ s is.
+    let done = handles s is in
+    (done.0, done.1, steps_in s done.1 e x done.2, done.3)
+handles_steps old new e (Err f) handles = handles
+
+pub does_in : (old new : Hub) (e : Event) (r : Result Effect HubFault) → Handles old e r new → (s : State) → HubRepresents old s
+    → (h : Action) × (t : State) × IsActionOf e (outcome_of r) h × Follows s h t × IfOk r (Does s e t) × HubRepresents new t
+does_in old new e (Ok x) handles s is =
+    let done = handles s is in
+    (happens e, done.1, refl, steps_in s done.1 e x done.2, done.2, done.3)
+does_in old new e (Err f) handles s is =
+    let followed = follows_in old new e (outcome_of {A = Effect} (Err f)) handles s is in
+    (followed.0, followed.1, followed.2, followed.3, tt, followed.4)
+
+-- ---- the call that says nothing of what it did
+
+pub same_fault : (A B : Type 0) (f : HubFault) → outcome_of {A = A} (Err f) ≡ outcome_of {A = B} (Err f)
+same_fault A B fault.IdNotAbove = refl
+same_fault A B fault.UnknownId = refl
+same_fault A B fault.NoLines = refl
+same_fault A B fault.TickBack = refl
+same_fault A B fault.CompactionRefused = refl
+same_fault A B (fault.NotTypes why) = refl
+same_fault A B fault.NotLawful = refl
+same_fault A B fault.TooFewRevisions = refl
+same_fault A B fault.Memory = refl
+same_fault A B fault.Store = refl

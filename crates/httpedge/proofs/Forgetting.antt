@@ -1,6 +1,6 @@
 -- What the connections are after one is opened, changed or over.
 use Rattle.std.proofs.Common.{arith, ◌≡◌, ℕ, Bool, true, false, cond, ◌&&◌, List, [], ◌∷◌, length, drop, Option, Some, None, Result, Ok, Err, refl, sym, ap, ap₂, subst, ◌∙◌}
-use Rattle.std.specs.Prelude.{◌==◌, is_some, option_map, unwrap_or, OnErr, OnOk}
+use Rattle.std.specs.Prelude.{◌==◌, is_some, option_map, unwrap_or, IfOk, OnErr}
 use Rattle.std.proofs.lemmas.Bool.{eqb-true}
 use Rattle.std.specs.BTreeMap.{BTreeMap, get}
 use Rattle.std.specs.BTreeSet.{BTreeSet, contains}
@@ -17,16 +17,21 @@ use Rattle.httpedge.specs.declared.event.ConnectionInput.TheVariants as change
 use Rattle.httpedge.specs.declared.ids.Ids.{Ids}
 use Rattle.httpedge.specs.declared.out.Out.{Out}
 use Rattle.httpedge.specs.ChangeViews.{Changes, Makes, Receives}
+use Rattle.httpedge.specs.declared.effect.Effect.{Effect}
+use Rattle.httpedge.specs.declared.effect.Effect.TheVariants as effect
+use Rattle.httpedge.specs.declared.fault.HubFault.{HubFault}
+use Rattle.httpedge.specs.declared.fault.HubFault.TheVariants as fault
+use Rattle.httpedge.specs.Effects.{no_change}
 use Rattle.httpedge.specs.Connections.{Connection, Phase, waiting, watching, ended, gone, has_ended, is_open, untaken_in, with_phase, with_taken}
 use Rattle.httpedge.specs.ConnectionViews.{BecomesAt, OpenIdsAfter, Forgets, ConnectionRepresents, IsApart, IsAt, IsFresh, IsSame, Opens, PutAt, found, has_ended_in, held_or, is_open_in, is_waiting_in, left, out_in, closed_by, had_ended_if_over_in, had_ended_by_ids}
-use Rattle.httpedge.specs.HubViews.{Outcome, done, refusal_in, refused}
+use Rattle.httpedge.specs.HubViews.{outcome_of, refusal_in, refused}
 use Rattle.httpedge.specs.IdViews.{is_in}
 use Rattle.httpedge.specs.Steps.{unknown_id}
 use Rattle.httpedge.specs.Watches.{pumped}
 use Rattle.httpedge.proofs.Connected.{hidden, itself, tied_same}
-use Rattle.httpedge.proofs.Representing.{takes_over}
+use Rattle.httpedge.proofs.Representing.{closed_watches, takes_over}
 use Rattle.httpedge.proofs.Ticked.{found_put}
-use Rattle.httpedge.proofs.Turning.{turn_closed}
+use Rattle.httpedge.proofs.Turning.{idle_did, turn_closed}
 
 wrong : false ≡ true → ⊥
 wrong e = cc
@@ -214,18 +219,19 @@ no_id_there f id q none = go (eq_by_cmp nat_cmp id q) (tied_same id q)
 -- ---- a change of one that is over
 
 receives_closed : (types : List ServedShape) (m : History) (last_tick : ℕ) (c : Connection) (st : Phase) (bytes : List ℕ) (shared : Shared) → is_open st ≡ false → SharedRepresents shared types m
-    → Receives types m last_tick c st bytes c shared
+    → Receives types m last_tick c st bytes c no_change shared
 receives_closed types m last_tick c (waiting prefix) bytes shared closed represents = absurd (wrong (sym closed))
 receives_closed types m last_tick c (watching w) bytes shared closed represents = absurd (wrong (sym closed))
-receives_closed types m last_tick c ended bytes shared closed represents = (refl, represents)
-receives_closed types m last_tick c (gone had_ended) bytes shared closed represents = (refl, represents)
+receives_closed types m last_tick c ended bytes shared closed represents = (refl, refl, represents)
+receives_closed types m last_tick c (gone had_ended) bytes shared closed represents = (refl, refl, represents)
 
 -- what it makes of it, and that it is over
 makes_over : (types : List ServedShape) (m : History) (last_tick : ℕ) (what : changes.ConnectionInput) (c : Connection) (h : Bool) (shared : Shared) → SharedRepresents shared types m → ConnectionRepresents types (conn.Closed h) c
-    → (c' : Connection) × Makes types m last_tick what c c' shared × ConnectionRepresents types (conn.Closed h) c'
+    → (c' : Connection) × Makes types m last_tick what c c' no_change shared × ConnectionRepresents types (conn.Closed h) c'
 makes_over types m last_tick (change.Bytes bytes) c h shared represents holds = (c, receives_closed types m last_tick c c.phase bytes.now shared holds.0 represents, holds)
-makes_over types m last_tick (change.Lines max) c h shared represents holds = (c, (sym (turn_closed (pumped m max) c c.phase holds.0), represents), holds)
-makes_over types m last_tick change.Gone c h shared represents holds = (with_phase c (gone (has_ended c.phase)), (refl, represents), (refl, holds.1, refl))
+makes_over types m last_tick (change.Lines max) c h shared represents holds =
+    (c, (sym (turn_closed (pumped m max) c c.phase holds.0), idle_did (pumped m max) c c.phase refl (closed_watches c.phase holds.0), represents), holds)
+makes_over types m last_tick change.Gone c h shared represents holds = (with_phase c (gone (has_ended c.phase)), (refl, refl, represents), (refl, holds.1, refl))
 
 -- one that isn't held is over
 is_over : (a b : Bool) (d : conns.Connection) → closed_by a b ≡ Some d → (h : Bool) × (d ≡ conn.Closed h)
@@ -234,13 +240,15 @@ is_over false true d is = (false, sym (some_of is))
 is_over false false d is = absurd (none_some is)
 
 pub passes : (types : List ServedShape) (m : History) (last_tick : ℕ) (what : changes.ConnectionInput) (id : ℕ) (d : conns.Connection) (c : Connection) (k : TheConnections) (shared : Shared) → SharedRepresents shared types m
-    → get nat_cmp k.held id ≡ None → IsAt id d k → ConnectionRepresents types d c → Changes types m last_tick what id c k k shared done
+    → get nat_cmp k.held id ≡ None → IsAt id d k → ConnectionRepresents types d c → Changes types m last_tick what id c k k shared (Ok effect.Nothing)
 passes types m last_tick what id d c k shared represents none (at, there, apart) holds =
     let over = is_over (is_in k.ended.ranges id) (is_in k.cut.ranges id) d
     (sym (ap (λ (o : Option conns.Connection). held_or o (closed_by (is_in k.ended.ranges id) (is_in k.cut.ranges id))) none) ∙ at) in
     let made = makes_over types m last_tick what c over.0 shared represents (subst (λ (x : conns.Connection). ConnectionRepresents types x c) over.1 holds) in (
       made.0,
+      no_change,
       made.1,
+      refl,
       record {
         one = d;
         holds = subst (λ (x : conns.Connection). ConnectionRepresents types x made.0) (sym over.1) made.2;
@@ -275,31 +283,38 @@ takes_passed types id n d c old new none same (at, there, apart) holds =
 known_by : (a b : Bool) (f : Option conns.Connection) → held_or None (closed_by a b) ≡ f → is_some (had_ended_by_ids a b) ≡ is_some f
 known_by a b f is = known_over a b ∙ ap is_some is
 
-abbrev pub Passes : TheConnections → ℕ → Outcome → Type 0
-Passes k id o = o ≡ cond (is_some (had_ended_by_ids (is_in k.ended.ranges id) (is_in k.cut.ranges id))) done (refused unknown_id)
+abbrev pub Answer : Type 0
+Answer = Result Effect HubFault
 
-passed_is : (k : TheConnections) (id : ℕ) (f : Option conns.Connection) (o : Outcome) → get nat_cmp k.held id ≡ None → Passes k id o → found k id ≡ f → o ≡ cond (is_some f) done (refused unknown_id)
-passed_is k id f o none passes is =
-    passes ∙ ap (λ (b : Bool). cond b done (refused unknown_id)) (known_by (is_in k.ended.ranges id) (is_in k.cut.ranges id) f (sym (found_held k id None none) ∙ is))
+-- nothing becomes of one that is over
+abbrev nothing_if : Bool → Answer
+nothing_if b = cond b (Ok effect.Nothing) (Err fault.UnknownId)
 
-pub pass_known : (types : List ServedShape) (m : History) (last_tick : ℕ) (what : changes.ConnectionInput) (id : ℕ) (d : conns.Connection) (c : Connection) (old new : TheConnections) (shared : Shared) (o : Outcome) → SharedRepresents shared types m
-    → get nat_cmp old.held id ≡ None → new ≡ old → Passes old id o → IsAt id d old → ConnectionRepresents types d c → Changes types m last_tick what id c old new shared o
-pass_known types m last_tick what id d c old new shared o represents none same passed at holds =
-    subst (Changes types m last_tick what id c old new shared) (sym (passed_is old id (Some d) o none passed at.0))
-    (subst (λ (k : TheConnections). Changes types m last_tick what id c old k shared done) (sym same) (passes types m last_tick what id d c old shared represents none at holds))
+abbrev pub Passes : TheConnections → ℕ → Answer → Type 0
+Passes k id r = r ≡ nothing_if (is_some (had_ended_by_ids (is_in k.ended.ranges id) (is_in k.cut.ranges id)))
 
-pub pass_unknown : (old : TheConnections) (id : ℕ) (o : Outcome) → get nat_cmp old.held id ≡ None → Passes old id o → found old id ≡ None → o ≡ refused unknown_id
-pass_unknown old id o none passed is = passed_is old id None o none passed is
+passed_is : (k : TheConnections) (id : ℕ) (f : Option conns.Connection) (r : Answer) → get nat_cmp k.held id ≡ None → Passes k id r → found k id ≡ f → r ≡ nothing_if (is_some f)
+passed_is k id f r none passes is =
+    passes ∙ ap nothing_if (known_by (is_in k.ended.ranges id) (is_in k.cut.ranges id) f (sym (found_held k id None none) ∙ is))
 
-pub pass_taken : (old : TheConnections) (id : ℕ) (o : Outcome) → get nat_cmp old.held id ≡ None → Passes old id o → is_some (found old id) ≡ true → refusal_in o ≡ None
-pass_taken old id o none passed is = go (found old id) refl is
+pub pass_known : (types : List ServedShape) (m : History) (last_tick : ℕ) (what : changes.ConnectionInput) (id : ℕ) (d : conns.Connection) (c : Connection) (old new : TheConnections) (shared : Shared) (r : Answer) → SharedRepresents shared types m
+    → get nat_cmp old.held id ≡ None → new ≡ old → Passes old id r → IsAt id d old → ConnectionRepresents types d c → Changes types m last_tick what id c old new shared r
+pass_known types m last_tick what id d c old new shared r represents none same passed at holds =
+    subst (Changes types m last_tick what id c old new shared) (sym (passed_is old id (Some d) r none passed at.0))
+    (subst (λ (k : TheConnections). Changes types m last_tick what id c old k shared (Ok effect.Nothing)) (sym same) (passes types m last_tick what id d c old shared represents none at holds))
+
+pub pass_unknown : (old : TheConnections) (id : ℕ) (r : Answer) → get nat_cmp old.held id ≡ None → Passes old id r → found old id ≡ None → outcome_of r ≡ refused unknown_id
+pass_unknown old id r none passed is = ap outcome_of (passed_is old id None r none passed is)
+
+pub pass_taken : (old : TheConnections) (id : ℕ) (r : Answer) → get nat_cmp old.held id ≡ None → Passes old id r → is_some (found old id) ≡ true → refusal_in (outcome_of r) ≡ None
+pass_taken old id r none passed is = go (found old id) refl is
   where
-    go : (f : Option conns.Connection) → found old id ≡ f → is_some f ≡ true → refusal_in o ≡ None
+    go : (f : Option conns.Connection) → found old id ≡ f → is_some f ≡ true → refusal_in (outcome_of r) ≡ None
     go None at has = absurd (wrong has)
-    go (Some d) at has = ap refusal_in (passed_is old id (Some d) o none passed at)
+    go (Some d) at has = ap (λ (a : Answer). refusal_in (outcome_of a)) (passed_is old id (Some d) r none passed at)
 
-pub on_ok_is : {A E P : Type 0} (r : Result A E) (a : A) → r ≡ Ok a → OnOk r P → P
-on_ok_is {A} {E} {P} r a is reported = subst (λ (x : Result A E). OnOk x P) is reported
+pub if_ok_is : {A E : Type 0} (P : A → Type 0) (r : Result A E) (a : A) → r ≡ Ok a → IfOk r P → P a
+if_ok_is {A} {E} P r a is reported = subst (λ (x : Result A E). IfOk x P) is reported
 
 pub on_err_is : {A E P : Type 0} (r : Result A E) (e : E) → r ≡ Err e → OnErr r P → P
 on_err_is {A} {E} {P} r e is reported = subst (λ (x : Result A E). OnErr x P) is reported

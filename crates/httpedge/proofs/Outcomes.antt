@@ -5,7 +5,7 @@ use Rattle.std.specs.FinMap as fin
 use Rattle.api_types.specs.TypesFile.{ServedShape}
 use Rattle.history.specs.History.{History}
 use Rattle.verbs.specs.Machine.{after}
-use Rattle.watchline.specs.Opening.{WatchFrom}
+use Rattle.answers.specs.WatchFrom.{WatchFrom}
 use Rattle.verbs.specs.Step.{planned}
 use Rattle.requests.specs.Asks.{CallDecision, Asks, asked_by}
 use Rattle.httpedge.specs.Connections.{Connection, Phase, waiting, watching, ended, gone, is_waiting, with_phase, with_written}

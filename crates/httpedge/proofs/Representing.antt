@@ -1,6 +1,6 @@
 -- What the hub's values stand for, after each event.
 use Rattle.std.proofs.Common.{arith, Bor, ◌≡◌, ℕ, ◌+◌, ◌-◌, ◌<◌, ◌≤◌, Bool, true, false, cond, ◌&&◌, List, [], ◌∷◌, ◌++◌, length, drop, min, Option, Some, None, Result, Ok, Err, inl, inr, refl, sym, ap, ap₂, subst, ◌∙◌}
-use Rattle.std.specs.Prelude.{◌↔◌, ◌==◌, is_some, option_map, unwrap_or, nat_le, nat_lt}
+use Rattle.std.specs.Prelude.{◌↔◌, ◌==◌, is_some, option_and_then, option_map, unwrap_or, nat_le, nat_lt}
 use Rattle.std.proofs.lemmas.Bool.{eqb-true, ltb-true, lt-leb, lt-ltb}
 use Rattle.std.proofs.lemmas.Bool.Decides.{leb_tells}
 use Rattle.std.specs.BTreeMap.{is_at}
@@ -23,25 +23,31 @@ use Rattle.verbs.specs.declared.fault.Fault.TheVariants as failed
 use Rattle.httpedge.specs.declared.connection.Connection as conns
 use Rattle.httpedge.specs.declared.connection.Connection.TheVariants as conn
 use Rattle.httpedge.specs.declared.connections.Connections.{Connections as TheConnections}
+use Rattle.httpedge.specs.declared.effect.Change.{Change}
+use Rattle.httpedge.specs.declared.effect.Effect.{Effect}
+use Rattle.httpedge.specs.declared.effect.Effect.TheVariants as effect
 use Rattle.httpedge.specs.declared.event.ConnectionInput as changes
 use Rattle.httpedge.specs.declared.event.ConnectionInput.TheVariants as change
 use Rattle.httpedge.specs.declared.fault.HubFault.{HubFault}
+use Rattle.httpedge.specs.declared.fault.HubFault.TheVariants as fault
 use Rattle.httpedge.specs.declared.out.Out.{Out}
 use Rattle.httpedge.specs.declared.watching.Watch.{Watch as TheWatch}
 use Rattle.httpedge.specs.ChangeViews.{Changes, Makes, Receives, event_on, takes_memory_on}
 use Rattle.httpedge.specs.Connections.{Connection, Connections, Phase, waiting, watching, ended, gone, has_ended, is_new, is_open, is_waiting, is_watching, untaken_in, open_on, out_of, with_phase, with_taken}
+use Rattle.requests.specs.Asks.{CallDecision}
 use Rattle.requests.specs.Decision.{undecided}
 use Rattle.httpedge.specs.ConnectionViews.{BecomesAt, ConnectionRepresents, ConnectionRepresentsAt, IsAt, IsFresh, IsSame, Opens, PutAt, PartsRepresent, found, has_ended_in, held_or, is_above, is_open_in, is_waiting_in, is_watching_in, left, out_in, closed_by}
 use Rattle.httpedge.specs.FaultViews.{hub_fault_of}
-use Rattle.httpedge.specs.HubViews.{StepsOrRefuses, HubRepresents, Outcome, outcome_of, refusal_in}
+use Rattle.httpedge.specs.Effects.{Does, IsEffect, change_between, decided_status, effect_on, lines_by, no_change, opening_status}
+use Rattle.httpedge.specs.HubViews.{Handles, StepsOrRefuses, HubRepresents, Outcome, outcome_of, refusal_in}
 use Rattle.httpedge.specs.HubViews as outcome
 use Rattle.httpedge.specs.IdViews.{is_in}
 use Rattle.httpedge.specs.declared.hub.Hub.{Hub}
-use Rattle.httpedge.specs.Runs.{Steps}
-use Rattle.httpedge.specs.Steps.{Event, Refusal, State, id_not_above, unknown_id, no_lines, compaction_refused, opens, comes, goes, pumps, compacts, after_turn, by_connection, killed, machine_after, opening, received, refusal, start, unless_refused, with_bytes_taken, with_connection, with_connections, with_machine, with_turn, RunsOutOfMemory}
+use Rattle.httpedge.specs.Runs.{AsksIf, all_bytes}
+use Rattle.httpedge.specs.Steps.{Event, Refusal, State, id_not_above, unknown_id, no_lines, compaction_refused, opens, comes, goes, pumps, compacts, after_turn, by_connection, connection_after, killed, machine_after, opening, received, received_by, refusal, start, unless_refused, with_bytes_taken, with_connection, with_connections, with_machine, with_turn, RunsOutOfMemory}
 use Rattle.httpedge.specs.Watches.{Turn, Watch, pumped}
-use Rattle.httpedge.proofs.Connected.{Entries, ids, new_put, new_still, tied_same, unknown}
-use Rattle.httpedge.proofs.Outcomes.{ComesBy, ComesOn}
+use Rattle.httpedge.proofs.Connected.{Entries, ids, itself, new_put, new_still, tied_same, unknown}
+use Rattle.httpedge.proofs.Effects.{between_same, no_effect, one_effect, same_between}
 use Rattle.httpedge.proofs.Taking.{left_after, out_taken}
 
 abbrev pub Found : Type 0
@@ -192,9 +198,20 @@ start_in types m shared k represents none shut had cut first = record {
     nothing : (q : ℕ) → found k q ≡ None
     nothing q = ap (λ (es : List (ℕ × conns.Connection)). held_or (lookup (is_at (nat_cmp q)) es) (closed_by (is_in k.ended.ranges q) (is_in k.cut.ranges q))) none ∙ ap₂ closed_by (had q) (cut q)
 
--- the code holds a state to which the event leads
-abbrev pub Done : State → Event → Shared → TheConnections → Type 0
-Done s e shared k = (t : State) × Steps s e t × PartsRepresent shared k t × (t.last_tick ≡ s.last_tick)
+-- the code holds a state to which the event leads, and the effect is what it did
+abbrev pub Done : State → Event → Effect → Shared → TheConnections → Type 0
+Done s e x shared k = (t : State) × Does s e t x × PartsRepresent shared k t × (t.last_tick ≡ s.last_tick)
+
+-- what is said of one id is said of no other
+other_id : {A : Type 0} (id : ℕ) (x none : A) (q : ℕ) → eq_by_cmp nat_cmp id q ≡ false → cond (eq_by_cmp nat_cmp id q) x none ≡ none
+other_id {A} id x none q isnt = ap (λ (b : Bool). cond b x none) isnt
+
+its_id : {A : Type 0} (id : ℕ) (x none : A) → cond (eq_by_cmp nat_cmp id id) x none ≡ x
+its_id {A} id x none = ap (λ (b : Bool). cond b x none) (itself id)
+
+same_either : {A : Type 0} (b : Bool) (x : A) → cond b x x ≡ x
+same_either true x = refl
+same_either false x = refl
 
 -- ---- an opening
 
@@ -235,14 +252,21 @@ opens_refused s shared k id is above = ap (λ (b : Bool). cond b None (Some id_n
 pub opens_unrefused : (s : State) (shared : Shared) (k : TheConnections) (id : ℕ) → PartsRepresent shared k s → is_above k.highest id ≡ true → refusal s (opens id) ≡ None
 opens_unrefused s shared k id is above = ap (λ (b : Bool). cond b None (Some id_not_above)) (is.highest_is id ∙ above)
 
-pub opens_well : (s : State) (id : ℕ) (shared : Shared) (old new : TheConnections) (d : conns.Connection) → PartsRepresent shared old s
-    → is_above old.highest id ≡ true → ConnectionRepresents s.types d (opening s.connections) → Opens id d old new → Done s (opens id) shared new
-opens_well s id shared old new d held above holds opened =
+pub opens_well : (s : State) (id : ℕ) (shared : Shared) (old new : TheConnections) (d : conns.Connection) (did : Change) → PartsRepresent shared old s
+    → is_above old.highest id ≡ true → ConnectionRepresents s.types d (opening s.connections) → did ≡ change_between None (Some (opening s.connections)) 0 (opening_status s.connections)
+    → Opens id d old new → Done s (opens id) (effect_on id did) shared new
+opens_well s id shared old new d did held above holds did_is opened =
     let c = opening s.connections in
     let isnew : is_new s.connections id ≡ true = held.highest_is id ∙ above in
     let t = with_connection s id c in (
       t,
-      (undecided, refl, sym (ap (λ (b : Bool). unless_refused (cond b None (Some id_not_above)) s t) isnew)),
+      (
+        undecided,
+        refl,
+        sym (ap (λ (b : Bool). unless_refused (cond b None (Some id_not_above)) s t) isnew),
+        one_effect s s.machine (opens id) undecided id None c 0 (opening_status s.connections) did (unknown s.connections id (fin.get s.connections id) refl isnew) refl
+            (its_id id (opening_status s.connections) None) (λ q isnt. (refl, other_id id (opening_status s.connections) None q isnt)) did_is,
+      ),
       record {
         machine = held.machine;
         connections = held_put s.types (found old) (found new) s.connections id d c held.connections opened.put holds;
@@ -306,38 +330,56 @@ idles s id shared shared' old new c c' held serves got same becomes =
 
 -- ---- bytes that come
 
-steps_on : (s t : State) (id : ℕ) (bytes : List ℕ) (c : Connection) (st : Phase) → fin.get s.connections id ≡ Some c → c.phase ≡ st → ComesOn s id c st bytes t → Steps s (comes id bytes) t
-steps_on s t id bytes c st got represents came =
-    subst (λ (o : Option Connection). ComesBy s id o bytes t) (sym got) (subst (λ (x : Phase). ComesOn s id c x bytes t) (sym represents) came)
+does_on : (s t : State) (id : ℕ) (bytes : List ℕ) (c : Connection) (st : Phase) (x : Effect) (decision : CallDecision) → fin.get s.connections id ≡ Some c → c.phase ≡ st
+    → AsksIf s (all_bytes st bytes) decision → t ≡ received_by s id c st bytes decision → IsEffect s (comes id bytes) decision t x → Does s (comes id bytes) t x
+does_on s t id bytes c st x decision got represents asks is effect = (
+  decision,
+  subst (λ (o : Option (List ℕ)). AsksIf s o decision)
+      (sym (ap (option_and_then (λ (y : Connection). all_bytes y.phase bytes)) got ∙ ap (λ (p : Phase). all_bytes p bytes) represents)) asks,
+  is ∙ sym (ap (λ (o : Option Connection). unless_refused (cond (is_some o) None (Some unknown_id)) s (by_connection s o (λ y. received_by s id y y.phase bytes decision))) got
+      ∙ ap (λ (p : Phase). received_by s id c p bytes decision) represents),
+  effect,
+)
 
-comes_done : (s : State) (id : ℕ) (bytes : List ℕ) (shared shared' : Shared) (old new : TheConnections) (c c' : Connection) (st : Phase) → PartsRepresent shared old s → fin.get s.connections id ≡ Some c → c.phase ≡ st
-    → Receives s.types s.machine s.last_tick c st bytes c' shared' → BecomesAt s.types (is_open c'.phase) c' id old new → Done s (comes id bytes) shared' new
-comes_done s id bytes shared shared' old new c c' (waiting prefix) held got represents (decision, asks, is, serves) becomes =
-    let m = machine_after s.types s.machine decision in (
+-- bytes on one that doesn't wait do nothing
+comes_idle : (s : State) (id : ℕ) (bytes : List ℕ) (did : Change) → did ≡ no_change → IsEffect s (comes id bytes) undecided s (effect_on id did)
+comes_idle s id bytes did none =
+    subst (λ (x : Change). IsEffect s (comes id bytes) undecided s (effect_on id x)) (sym none)
+    (no_effect s s (comes id bytes) undecided (λ q.
+    ap (change_between (fin.get s.connections q) (fin.get s.connections q) 0) (same_either (eq_by_cmp nat_cmp id q) None) ∙ same_between (fin.get s.connections q)))
+
+comes_done : (s : State) (id : ℕ) (bytes : List ℕ) (shared shared' : Shared) (old new : TheConnections) (c c' : Connection) (did : Change) (st : Phase) → PartsRepresent shared old s → fin.get s.connections id ≡ Some c
+    → c.phase ≡ st → Receives s.types s.machine s.last_tick c st bytes c' did shared' → BecomesAt s.types (is_open c'.phase) c' id old new → Done s (comes id bytes) (effect_on id did) shared' new
+comes_done s id bytes shared shared' old new c c' did (waiting prefix) held got represents (decision, asks, is, did_is, serves) becomes =
+    let m = machine_after s.types s.machine decision in
+    let status = decided_status s.types s.machine decision in (
       with_connection (with_machine s m) id c',
-      subst (λ (x : Connection). Steps s (comes id bytes) (with_connection (with_machine s m) id x)) (sym is)
-          (steps_on s (received s id c (prefix ++ bytes) decision) id bytes c (waiting prefix) got represents (decision, asks, refl)),
+      does_on s (with_connection (with_machine s m) id c') id bytes c (waiting prefix) (effect_on id did) decision got represents asks (ap (with_connection (with_machine s m) id) is)
+          (one_effect s m (comes id bytes) decision id (Some c) c' 0 status did got refl (its_id id status None) (λ q isnt. (refl, other_id id status None q isnt))
+          (did_is ∙ ap (λ (x : Connection). change_between (Some c) (Some x) 0 status) (sym is))),
       moves s m id (is_open c'.phase) shared shared' old new c c' held serves got becomes (ap (λ (x : Phase). is_open x && is_open c'.phase) represents),
       refl,
     )
-comes_done s id bytes shared shared' old new c c' (watching w) held got represents (same, serves) becomes =
-    (s, steps_on s s id bytes c (watching w) got represents (undecided, refl, refl), idles s id shared shared' old new c c' held serves got same becomes, refl)
-comes_done s id bytes shared shared' old new c c' ended held got represents (same, serves) becomes =
-    (s, steps_on s s id bytes c ended got represents (undecided, refl, refl), idles s id shared shared' old new c c' held serves got same becomes, refl)
-comes_done s id bytes shared shared' old new c c' (gone had_ended) held got represents (same, serves) becomes =
-    (s, steps_on s s id bytes c (gone had_ended) got represents (undecided, refl, refl), idles s id shared shared' old new c c' held serves got same becomes, refl)
+comes_done s id bytes shared shared' old new c c' did (watching w) held got represents (same, did_is, serves) becomes =
+    (s, does_on s s id bytes c (watching w) (effect_on id did) undecided got represents refl refl (comes_idle s id bytes did did_is), idles s id shared shared' old new c c' held serves got same becomes, refl)
+comes_done s id bytes shared shared' old new c c' did ended held got represents (same, did_is, serves) becomes =
+    (s, does_on s s id bytes c ended (effect_on id did) undecided got represents refl refl (comes_idle s id bytes did did_is), idles s id shared shared' old new c c' held serves got same becomes, refl)
+comes_done s id bytes shared shared' old new c c' did (gone had_ended) held got represents (same, did_is, serves) becomes =
+    (s, does_on s s id bytes c (gone had_ended) (effect_on id did) undecided got represents refl refl (comes_idle s id bytes did did_is), idles s id shared shared' old new c c' held serves got same becomes, refl)
 
 -- ---- a peer that goes, and a pump
 
-goes_done : (s : State) (id : ℕ) (shared shared' : Shared) (old new : TheConnections) (c c' : Connection) → PartsRepresent shared old s → fin.get s.connections id ≡ Some c
-    → c' ≡ with_phase c (gone (has_ended c.phase)) → SharedRepresents shared' s.types s.machine → BecomesAt s.types (is_open c'.phase) c' id old new → Done s (goes id) shared' new
-goes_done s id shared shared' old new c c' held got is serves becomes = (
+goes_done : (s : State) (id : ℕ) (shared shared' : Shared) (old new : TheConnections) (c c' : Connection) (did : Change) → PartsRepresent shared old s → fin.get s.connections id ≡ Some c
+    → c' ≡ with_phase c (gone (has_ended c.phase)) → did ≡ no_change → SharedRepresents shared' s.types s.machine → BecomesAt s.types (is_open c'.phase) c' id old new → Done s (goes id) (effect_on id did) shared' new
+goes_done s id shared shared' old new c c' did held got is did_is serves becomes = (
   with_connection s id c',
   (
     undecided,
     refl,
     ap (with_connection s id) is
         ∙ sym (ap (λ (o : Option Connection). unless_refused (cond (is_some o) None (Some unknown_id)) s (by_connection s o (λ x. with_connection s id (with_phase x (gone (has_ended x.phase)))))) got),
+    one_effect s s.machine (goes id) undecided id (Some c) c' 0 None did got refl refl (λ q isnt. (refl, refl))
+        (did_is ∙ sym (between_same c c' (ap (λ (x : Connection). x.written) is) (ap (λ (x : Connection). has_ended x.phase) is))),
   ),
   moves s s.machine id (is_open c'.phase) shared shared' old new c c' held serves got becomes
       (still_open (is_open c.phase) (is_open c'.phase) (λ now. absurd (false_true (sym (ap (λ (x : Connection). is_open x.phase) is) ∙ now)))),
@@ -351,16 +393,20 @@ turn_opens turn c (watching w) represents now = ap is_open represents
 turn_opens turn c ended represents now = now
 turn_opens turn c (gone had_ended) represents now = now
 
-pumps_done : (s : State) (id max : ℕ) (shared shared' : Shared) (old new : TheConnections) (c c' : Connection) → PartsRepresent shared old s → fin.get s.connections id ≡ Some c → (max == 0) ≡ false
-    → c' ≡ with_turn (pumped s.machine max) c → SharedRepresents shared' s.types s.machine → BecomesAt s.types (is_open c'.phase) c' id old new → Done s (pumps id max) shared' new
-pumps_done s id max shared shared' old new c c' held got some is serves becomes =
-    let turn = pumped s.machine max in (
+pumps_done : (s : State) (id max : ℕ) (shared shared' : Shared) (old new : TheConnections) (c c' : Connection) (did : Change) → PartsRepresent shared old s → fin.get s.connections id ≡ Some c → (max == 0) ≡ false
+    → c' ≡ with_turn (pumped s.machine max) c → did ≡ change_between (Some c) (Some (with_turn (pumped s.machine max) c)) (lines_by (pumped s.machine max) c.phase) None
+    → SharedRepresents shared' s.types s.machine → BecomesAt s.types (is_open c'.phase) c' id old new → Done s (pumps id max) (effect_on id did) shared' new
+pumps_done s id max shared shared' old new c c' did held got some is did_is serves becomes =
+    let turn = pumped s.machine max in
+    let lines = λ (o : Option Connection). unwrap_or (option_map (λ (x : Connection). lines_by turn x.phase) o) 0 in (
       with_connection s id c',
       (
         undecided,
         refl,
         ap (with_connection s id) is
             ∙ sym (ap₂ (λ (o : Option Connection) (b : Bool). unless_refused (cond (is_some o) (cond b (Some no_lines) None) (Some unknown_id)) s (by_connection s o (λ x. with_connection s id (with_turn turn x)))) got some),
+        one_effect s s.machine (pumps id max) undecided id (Some c) c' (lines_by turn c.phase) None did got (its_id id (lines (fin.get s.connections id)) 0 ∙ ap lines got) refl
+            (λ q isnt. (other_id id (lines (fin.get s.connections q)) 0 q isnt, refl)) (did_is ∙ ap (λ (x : Connection). change_between (Some c) (Some x) (lines_by turn c.phase) None) (sym is)),
       ),
       moves s s.machine id (is_open c'.phase) shared shared' old new c c' held serves got becomes
           (still_open (is_open c.phase) (is_open c'.phase) (λ now. turn_opens turn c c.phase refl (sym (ap (λ (x : Connection). is_open x.phase) is) ∙ now))),
@@ -390,12 +436,12 @@ gone_isnt none = cc
 abbrev pub IsNone : changes.ConnectionInput → Type 0
 IsNone what = what ≡ change.Lines 0
 
-changes_done : (s : State) (what : changes.ConnectionInput) (id : ℕ) (shared shared' : Shared) (old new : TheConnections) (c c' : Connection) → (IsNone what → ⊥) → PartsRepresent shared old s → fin.get s.connections id ≡ Some c
-    → Makes s.types s.machine s.last_tick what c c' shared' → BecomesAt s.types (is_open c'.phase) c' id old new → Done s (event_on id what) shared' new
-changes_done s (change.Bytes bytes) id shared shared' old new c c' some held got makes becomes = comes_done s id bytes.now shared shared' old new c c' c.phase held got refl makes becomes
-changes_done s (change.Lines max) id shared shared' old new c c' some held got (is, serves) becomes =
-    pumps_done s id max shared shared' old new c c' held got (some_lines max (max == 0) refl some) is serves becomes
-changes_done s change.Gone id shared shared' old new c c' some held got (is, serves) becomes = goes_done s id shared shared' old new c c' held got is serves becomes
+changes_done : (s : State) (what : changes.ConnectionInput) (id : ℕ) (shared shared' : Shared) (old new : TheConnections) (c c' : Connection) (did : Change) → (IsNone what → ⊥) → PartsRepresent shared old s → fin.get s.connections id ≡ Some c
+    → Makes s.types s.machine s.last_tick what c c' did shared' → BecomesAt s.types (is_open c'.phase) c' id old new → Done s (event_on id what) (effect_on id did) shared' new
+changes_done s (change.Bytes bytes) id shared shared' old new c c' did some held got makes becomes = comes_done s id bytes.now shared shared' old new c c' did c.phase held got refl makes becomes
+changes_done s (change.Lines max) id shared shared' old new c c' did some held got (is, did_is, serves) becomes =
+    pumps_done s id max shared shared' old new c c' did held got (some_lines max (max == 0) refl some) is did_is serves becomes
+changes_done s change.Gone id shared shared' old new c c' did some held got (is, did_is, serves) becomes = goes_done s id shared shared' old new c c' did held got is did_is serves becomes
 
 -- by whether there is a connection of the id
 by_known : (s : State) (what : changes.ConnectionInput) (id : ℕ) (o : Option Connection) → (IsNone what → ⊥) → fin.get s.connections id ≡ o → refusal s (event_on id what) ≡ cond (is_some o) None (Some unknown_id)
@@ -482,35 +528,75 @@ none_refused e = cc
 abbrev pub with_parts : Hub → Shared → TheConnections → Hub
 with_parts hub shared k = record { alloc = hub.alloc; shared = shared; connections = k; last_tick = hub.last_tick }
 
-pub changes_handled : (hub : Hub) (what : changes.ConnectionInput) (id : ℕ) (shared : Shared) (new : TheConnections) (o : Outcome) → (IsNone what → ⊥)
+abbrev pub Answer : Type 0
+Answer = Result Effect HubFault
+
+-- a fault that is no refusal is one of memory or of the store
+not_refused : (f : HubFault) → refusal_in (outcome_of {A = Effect} (Err f)) ≡ None → outcome_of {A = Effect} (Err f) ≡ outcome.out_of_memory
+not_refused f none = go (outcome_of {A = Effect} (Err f)) refl none
+  where
+    fails : (g : HubFault) → outcome_of {A = Effect} (Err g) ≡ outcome.done → ⊥
+    fails fault.IdNotAbove is = cc
+    fails fault.UnknownId is = cc
+    fails fault.NoLines is = cc
+    fails fault.TickBack is = cc
+    fails fault.CompactionRefused is = cc
+    fails (fault.NotTypes why) is = cc
+    fails fault.NotLawful is = cc
+    fails fault.TooFewRevisions is = cc
+    fails fault.Memory is = cc
+    fails fault.Store is = cc
+
+    go : (o : Outcome) → outcome_of {A = Effect} (Err f) ≡ o → refusal_in o ≡ None → outcome_of {A = Effect} (Err f) ≡ outcome.out_of_memory
+    go outcome.done is free = absurd (fails f is)
+    go (outcome.refused why) is free = absurd (none_refused free)
+    go outcome.out_of_memory is free = is
+
+not_done : (why : Refusal) → outcome.done ≡ outcome.refused why → ⊥
+not_done why is = cc
+
+pub changes_handled : (hub : Hub) (what : changes.ConnectionInput) (id : ℕ) (shared : Shared) (new : TheConnections) (r : Answer) → (IsNone what → ⊥)
     → ((types : List ServedShape) (m : History) (d : conns.Connection) (c : Connection) → SharedRepresents hub.shared types m → IsAt id d hub.connections → ConnectionRepresents types d c
-    → Changes types m hub.last_tick what id c hub.connections new shared o)
-    → (found hub.connections id ≡ None → (o ≡ outcome.refused unknown_id) × (new ≡ hub.connections) × (shared ≡ hub.shared)) → (is_some (found hub.connections id) ≡ true → refusal_in o ≡ None)
-    → StepsOrRefuses hub (event_on id what) o (with_parts hub shared new)
-changes_handled hub what id shared new o some known unknown taken = go (found hub.connections id) refl
+    → Changes types m hub.last_tick what id c hub.connections new shared r)
+    → (found hub.connections id ≡ None → (outcome_of r ≡ outcome.refused unknown_id) × (new ≡ hub.connections) × (shared ≡ hub.shared)) → (is_some (found hub.connections id) ≡ true → refusal_in (outcome_of r) ≡ None)
+    → Handles hub (event_on id what) r (with_parts hub shared new)
+changes_handled hub what id shared new r some known unknown taken = go (found hub.connections id) refl r refl
   where
     after : Hub
     after = with_parts hub shared new
 
-    handled : (d : conns.Connection) → found hub.connections id ≡ Some d → (p : Outcome) → o ≡ p → StepsOrRefuses hub (event_on id what) p after
-    handled d at outcome.done is = λ s here.
-        let c = some_held s.types (found hub.connections id) (fin.get s.connections id) d (here.0.connections id) at in
-        let changes = subst (Changes s.types s.machine hub.last_tick what id c.0 hub.connections new shared) is (known s.types s.machine d c.0 here.0.machine (represents_at s hub.shared hub.connections id d c.0 here.0 at c.1 c.2) c.2) in
-        let done = changes_done s what id hub.shared shared hub.connections new c.0 changes.0 some here.0 c.1 (subst (λ (n : ℕ). Makes s.types s.machine n what c.0 changes.0 shared) here.1 changes.1) changes.2 in
-        (by_known s what id (Some c.0) some c.1, done.0, done.1, (done.2, here.1 ∙ sym done.3))
-    handled d at (outcome.refused why) is = absurd (none_refused (sym (ap refusal_in is) ∙ taken (ap is_some at)))
-    handled d at outcome.out_of_memory is = λ s here.
-        let c = some_held s.types (found hub.connections id) (fin.get s.connections id) d (here.0.connections id) at in
-        let changes = subst (Changes s.types s.machine hub.last_tick what id c.0 hub.connections new shared) is (known s.types s.machine d c.0 here.0.machine (represents_at s hub.shared hub.connections id d c.0 here.0 at c.1 c.2) c.2) in
-        let runs_out_of_memory = changes_run_out s what id hub.shared shared hub.connections new c.0 some here.0 c.1 changes.0 changes.1 changes.2 in
-        ((λ q. false), runs_out_of_memory.0, runs_out_of_memory.1, (runs_out_of_memory.2, here.1 ∙ sym runs_out_of_memory.3))
+    changed : (d : conns.Connection) → found hub.connections id ≡ Some d → (s : State) → HubRepresents hub s → (p : Answer) → r ≡ p
+        → (c : Connection) × (fin.get s.connections id ≡ Some c) × Changes s.types s.machine hub.last_tick what id c hub.connections new shared p
+    changed d at s here p is =
+        let c = some_held s.types (found hub.connections id) (fin.get s.connections id) d (here.0.connections id) at in (
+          c.0,
+          c.1,
+          subst (Changes s.types s.machine hub.last_tick what id c.0 hub.connections new shared) is
+              (known s.types s.machine d c.0 here.0.machine (represents_at s hub.shared hub.connections id d c.0 here.0 at c.1 c.2) c.2),
+        )
 
-    go : (f : Option conns.Connection) → found hub.connections id ≡ f → StepsOrRefuses hub (event_on id what) o after
-    go None at = subst (λ (p : Outcome). StepsOrRefuses hub (event_on id what) p after) (sym (unknown at).0) (
+    died : (d : conns.Connection) → found hub.connections id ≡ Some d → (f : HubFault) → r ≡ Err f → StepsOrRefuses hub (event_on id what) outcome.out_of_memory after
+    died d at f is = λ s here.
+        let one = changed d at s here (Err f) is in
+        let dead = one.2 in
+        let ran_out = changes_run_out s what id hub.shared shared hub.connections new one.0 some here.0 one.1 dead.0 dead.1 dead.2 in
+        ((λ q. false), ran_out.0, ran_out.1, (ran_out.2, here.1 ∙ sym ran_out.3))
+
+    go : (f : Option conns.Connection) → found hub.connections id ≡ f → (p : Answer) → r ≡ p → Handles hub (event_on id what) p after
+    go None at (Ok x) is = absurd (not_done unknown_id (sym (ap outcome_of is) ∙ (unknown at).0))
+    go None at (Err f) is = subst (λ (o : Outcome). StepsOrRefuses hub (event_on id what) o after) (sym (sym (ap outcome_of is) ∙ (unknown at).0)) (
       ap₂ (with_parts hub) (unknown at).2 (unknown at).1,
       λ s here. by_known s what id None some (none_held s.types (found hub.connections id) (fin.get s.connections id) (here.0.connections id) at),
     )
-    go (Some d) at = handled d at o refl
+    go (Some d) at (Ok x) is = λ s here.
+        let one = changed d at s here (Ok x) is in
+        let made = one.2 in
+        let done = changes_done s what id hub.shared shared hub.connections new one.0 made.0 made.1 some here.0 one.1
+        (subst (λ (n : ℕ). Makes s.types s.machine n what one.0 made.0 made.1 shared) here.1 made.2) made.4 in
+        let t = done.0 in
+        (by_known s what id (Some one.0) some one.1, t, subst (Does s (event_on id what) t) (sym made.3) done.1, (done.2, here.1 ∙ sym done.3))
+    go (Some d) at (Err f) is =
+        subst (λ (o : Outcome). StepsOrRefuses hub (event_on id what) o after) (sym (not_refused f (sym (ap (λ (p : Answer). refusal_in (outcome_of p)) is) ∙ taken (ap is_some at)))) (died d at f is)
 
 -- ---- compactions
 
@@ -570,12 +656,17 @@ late_refused A s c r e (early, late) is large = refused_high s c (late.0 (is ∙
 
 -- the same connections over another API
 pub compacts_well : (s : State) (c : ℕ) (hub : Hub) (shared : Shared) → HubRepresents hub s → refusal s (compacts c) ≡ None
-    → SharedRepresents shared s.types (compacted_to c s.machine) → (refusal s (compacts c) ≡ None) × (t : State) × Steps s (compacts c) t × (PartsRepresent shared hub.connections t × (hub.last_tick ≡ t.last_tick))
+    → SharedRepresents shared s.types (compacted_to c s.machine) → (refusal s (compacts c) ≡ None) × (t : State) × Does s (compacts c) t effect.Nothing × (PartsRepresent shared hub.connections t × (hub.last_tick ≡ t.last_tick))
 compacts_well s c hub shared is free represents =
     let t = with_machine s (compacted_to c s.machine) in (
       free,
       t,
-      (undecided, refl, sym (ap (λ (o : Option Refusal). unless_refused o s t) free)),
+      (
+        undecided,
+        refl,
+        sym (ap (λ (o : Option Refusal). unless_refused o s t) free),
+        no_effect s t (compacts c) undecided (λ q. same_between (fin.get s.connections q)),
+      ),
       (over_shared s (compacted_to c s.machine) hub.shared shared hub.connections is.0 represents, is.1),
     )
 

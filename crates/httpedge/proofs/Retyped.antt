@@ -1,6 +1,7 @@
 -- What a hub becomes where other types are served.
 use Rattle.std.proofs.Common.{◌≡◌, false, List, Result, Ok, Err, None, refl, sym, ap, subst}
 use Rattle.std.specs.Prelude.{IfSome}
+use Rattle.std.specs.FinMap as fin
 use Rattle.serde_json.specs.Data.{Data}
 use Rattle.api_types.specs.TypesFile.{ServedShape}
 use Rattle.verbs.specs.Retyping.{RetypeRefusal, retyped, retyping}
@@ -17,18 +18,25 @@ use Rattle.httpedge.specs.FaultViews.{retyping_fault_of}
 use Rattle.httpedge.specs.ConnectionViews.{PartsRepresent}
 use Rattle.httpedge.specs.HubViews.{StepsOrRefuses, HubRepresents, outcome_of, reported_fault}
 use Rattle.httpedge.specs.HubViews as outcome
-use Rattle.httpedge.specs.Runs.{Steps}
+use Rattle.httpedge.specs.Effects.{Does}
+use Rattle.httpedge.specs.declared.effect.Effect.TheVariants as effect
 use Rattle.httpedge.specs.Steps.{State, refusal, retypes, unless_refused, unless_retyped, with_types}
+use Rattle.httpedge.proofs.Effects.{no_effect, same_between}
 use Rattle.httpedge.proofs.OtherTypes.{is_lawful, others_represent, types_last}
 
 -- the others are served, and each connection is held by them
 pub retypes_well : (s : State) (file : Data) (hub : Hub) (shared : Shared) → HubRepresents hub s
     → (others : List ServedShape) × (retyping s.types s.machine file ≡ Ok others) × SharedRepresents shared others (retyped s.types others s.machine)
-    → (refusal s (retypes file) ≡ None) × (t : State) × Steps s (retypes file) t × (PartsRepresent shared hub.connections t × (hub.last_tick ≡ t.last_tick))
+    → (refusal s (retypes file) ≡ None) × (t : State) × Does s (retypes file) t effect.Nothing × (PartsRepresent shared hub.connections t × (hub.last_tick ≡ t.last_tick))
 retypes_well s file hub shared is (others, got, represents) = (
   ap unless_retyped got,
   with_types s (Ok others),
-  (undecided, refl, sym (ap (λ (r : Result (List ServedShape) RetypeRefusal). unless_refused (unless_retyped r) s (with_types s r)) got)),
+  (
+    undecided,
+    refl,
+    sym (ap (λ (r : Result (List ServedShape) RetypeRefusal). unless_refused (unless_retyped r) s (with_types s r)) got),
+    no_effect s (with_types s (Ok others)) (retypes file) undecided (λ q. same_between (fin.get s.connections q)),
+  ),
   (
     others_represent s others (retyped s.types others s.machine) hub.shared shared hub.connections (types_last s.types others (is_lawful s.types others s.machine file got)) is.0 represents,
     is.1,

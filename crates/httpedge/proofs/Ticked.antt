@@ -1,6 +1,7 @@
 -- Connections at a tick, one after the other.
-use Rattle.std.proofs.Common.{◌≡◌, ℕ, Bool, true, false, ◌&&◌, ◌||◌, cond, T, List, [], ◌∷◌, Option, Some, None, refl, sym, ap, ap₂, subst, ◌∙◌}
-use Rattle.std.specs.Prelude.{is_some, option_map, unwrap_or, nat_lt}
+use Rattle.std.proofs.Common.{◌≡◌, ℕ, Bool, true, false, ◌&&◌, ◌||◌, cond, T, List, [], ◌∷◌, ◌++◌, map, Option, Some, None, refl, sym, ap, ap₂, subst, ◌∙◌, append_assoc, append-nil}
+use Rattle.std.specs.Prelude.{is_some, option_map, unwrap_or, nat_lt, Vec}
+use Rattle.std.specs.declared.alloc.Global.{Global}
 use Rattle.std.specs.BTreeMap.{BTreeMap, get, is_at}
 use Rattle.std.specs.BTreeSet.{BTreeSet, contains}
 use Rattle.std.specs.Cmp.{nat_cmp_total}
@@ -11,23 +12,29 @@ use Rattle.std.specs.List.Sorted.{IsStrictlySortedBy}
 use Rattle.std.specs.Ordering.{nat_cmp, eq_by_cmp, is_eq}
 use Rattle.std.specs.declared.cmp.Ordering.{Ordering}
 use Rattle.std.specs.declared.cmp.Ordering.TheVariants.{Less}
+use Rattle.std.proofs.lemmas.List.Kept.{IsStrictlySortedBy-filter}
 use Rattle.std.proofs.lemmas.Map.Views.{any-filter_same}
 use Rattle.api_types.specs.TypesFile.{ServedShape}
 use Rattle.httpedge.specs.declared.shared.Shared.{Shared}
 use Rattle.httpedge.specs.declared.connection.Connection as conns
+use Rattle.httpedge.specs.declared.connection.Connection.TheVariants as conn
 use Rattle.httpedge.specs.declared.connections.Connections.{Connections as TheConnections}
-use Rattle.httpedge.specs.Connections.{Connection, Connections, Phase, waiting, watching, ended, gone, each, is_new, is_open, is_watching, open_on}
+use Rattle.httpedge.specs.declared.effect.Change.{Change}
+use Rattle.httpedge.specs.declared.effect.Effect.TheVariants as effect
+use Rattle.httpedge.specs.Connections.{Connection, Connections, Phase, waiting, watching, ended, gone, each, is_new, is_open, is_watching, open_on, with_phase}
 use Rattle.requests.specs.Decision.{undecided}
-use Rattle.httpedge.specs.ConnectionViews.{ConnectionRepresents, ConnectionRepresentsAt, IsApart, Lists, PutAt, PartsRepresent, found, found_in, held_or, is_above, is_open_in, closed_by}
+use Rattle.httpedge.specs.ConnectionViews.{ConnectionRepresents, ConnectionRepresentsAt, IsApart, Lists, PutAt, PartsRepresent, found, found_in, held_or, is_above, is_open_in, phase_in, closed_by}
+use Rattle.httpedge.specs.Effects.{Does, change_between, change_in, ids_in, if_something, no_change, says_something, tells}
 use Rattle.httpedge.specs.IdViews.{is_in}
-use Rattle.httpedge.specs.Runs.{Steps}
 use Rattle.httpedge.specs.Steps.{Refusal, State, tick_back, ticks, killed_or_ticked, refusal, unless_refused, with_tick, with_turn, writes_at, RunsOutOfMemory}
-use Rattle.httpedge.specs.TickViews.{ConnectionsRepresent, TicksAll, TicksAt, TicksIn, due_on, put_where, ticked_all, ticked_at}
+use Rattle.httpedge.specs.TickViews.{ConnectionsRepresent, SomeRanOutOfMemory, TellAll, TellsAt, TicksAll, TicksAt, TicksIn, due_on, lines_if, put_where, ticked_all, ticked_at, ticked_change}
 use Rattle.httpedge.specs.Watches.{ticked}
 use Rattle.httpedge.proofs.Connected.{Entries, changed, got_each, ids, itself, sorted_same, tied_same}
 use Rattle.httpedge.proofs.Counting.{sorted_parts}
 use Rattle.httpedge.proofs.Representing.{Found, closed_watches, held_put, open_in, put_same, same_open, some_held, watching_open}
+use Rattle.httpedge.proofs.Effects.{between_same}
 use Rattle.httpedge.proofs.Staying.{dead_idle}
+use Rattle.httpedge.proofs.Turning.{dead_is, idle_did, undue_stays}
 
 wrong : false ≡ true → ⊥
 wrong e = cc
@@ -52,6 +59,54 @@ no_turn : (types : List ServedShape) (ms : ℕ) (b : Bool) (o : Option Connectio
 no_turn types ms b None is = refl
 no_turn types ms b (Some c) is = ap (λ (d : Connection). Some d) (dead_idle types ms b c (not_watching c.phase is))
 
+-- ---- what its turn did
+
+closed_due : (ms : ℕ) (st : Phase) → is_open st ≡ false → writes_at ms st ≡ false
+closed_due ms (waiting prefix) is = refl
+closed_due ms (watching w) is = absurd (wrong (sym is))
+closed_due ms ended is = refl
+closed_due ms (gone had_ended) is = refl
+
+-- whether one is due, as the code holds it
+pub same_due : (types : List ServedShape) (ms : ℕ) (d : conns.Connection) (c : Connection) → ConnectionRepresents types d c → writes_at ms (phase_in d) ≡ writes_at ms c.phase
+same_due types ms (conn.Head prefix) c is = sym (ap (λ (x : Connection). writes_at ms x.phase) is)
+same_due types ms (conn.Body p) c (prefix, is, awaits) = sym (ap (λ (x : Connection). writes_at ms x.phase) is)
+same_due types ms (conn.Watch w out) c (is, rest, low) = sym (ap (writes_at ms) is)
+same_due types ms (conn.Ended out) c (is, rest) = sym (ap (writes_at ms) is)
+same_due types ms (conn.Closed had_ended) c (closed, had, none) = sym (closed_due ms c.phase closed)
+
+pub due_watches : (ms : ℕ) (st : Phase) → writes_at ms st ≡ true → is_watching st ≡ true
+due_watches ms (waiting prefix) due = absurd (wrong due)
+due_watches ms (watching w) due = refl
+due_watches ms ended due = absurd (wrong due)
+due_watches ms (gone had_ended) due = absurd (wrong due)
+
+pub due_dies : (types : List ServedShape) (ms : ℕ) (c : Connection) (st : Phase) → c.phase ≡ st → writes_at ms st ≡ true → killed_or_ticked types ms true c ≡ with_phase c ended
+due_dies types ms c (waiting prefix) represents due = absurd (wrong due)
+due_dies types ms c (watching w) represents due = dead_is types ms c w represents due
+due_dies types ms c ended represents due = absurd (wrong due)
+due_dies types ms c (gone had_ended) represents due = absurd (wrong due)
+
+pub undue_idle : (types : List ServedShape) (ms : ℕ) (c : Connection) → writes_at ms c.phase ≡ false → killed_or_ticked types ms false c ≡ c
+undue_idle types ms c isnt = (undue_stays types ms c c.phase refl isnt).0
+
+undue_did : (types : List ServedShape) (ms : ℕ) (c : Connection) → writes_at ms c.phase ≡ false → ticked_change types ms (Some c) ≡ no_change
+undue_did types ms c isnt =
+    let stays = undue_stays types ms c c.phase refl isnt in
+    ap₂ (λ (d : Connection) (n : ℕ). change_between (Some c) (Some d) n None) stays.0 stays.1 ∙ between_same c c refl refl
+
+-- nothing is told of what did nothing
+told_none : (id : ℕ) (change : Change) (told : List (ℕ × Change)) → change ≡ no_change → told ≡ told ++ filter tells ((id, change) ∷ [])
+told_none id change told none = sym (append-nil told) ∙ sym (ap (λ (x : Change). told ++ filter tells ((id, x) ∷ [])) none)
+
+pub undue_told : (types : List ServedShape) (ms id : ℕ) (c : Connection) (told : List (ℕ × Change)) → writes_at ms c.phase ≡ false → told ≡ told ++ filter tells ((id, ticked_change types ms (Some c)) ∷ [])
+undue_told types ms id c told isnt = told_none id (ticked_change types ms (Some c)) told (undue_did types ms c isnt)
+
+-- one that isn't open does nothing
+closed_did : (types : List ServedShape) (ms : ℕ) (o : Option Connection) → open_in o ≡ false → ticked_change types ms o ≡ no_change
+closed_did types ms None is = refl
+closed_did types ms (Some c) is = sym (idle_did (ticked types ms) c c.phase refl (not_watching c.phase is))
+
 -- ---- the connection of an id
 
 closed_over : (types : List ServedShape) (a b : Bool) (c : Connection) → ConnectionRepresentsAt types (closed_by a b) (Some c) → is_open c.phase ≡ false
@@ -75,6 +130,22 @@ none_ticks types ms id before held held' had_ended cut all at same = (
       (subst (λ (o : Option conns.Connection). ConnectionRepresentsAt types (held_or o (closed_by (had_ended id) (cut id))) (fin.get before id)) at (all id)),
   λ is. absurd (wrong is),
 )
+
+over_shut : (types : List ServedShape) (a b : Bool) (o : Option Connection) → ConnectionRepresentsAt types (closed_by a b) o → open_in o ≡ false
+over_shut types a b None holds = refl
+over_shut types a b (Some c) holds = closed_over types a b c holds
+
+pub none_tells : (types : List ServedShape) (ms id : ℕ) (before : Connections) (held : BTreeMap ℕ conns.Connection) (had_ended cut : ℕ → Bool) (told : List (ℕ × Change))
+    → ConnectionsRepresent types (found_in held had_ended cut) before → get nat_cmp held id ≡ None → TellsAt types ms id before told told false
+none_tells types ms id before held had_ended cut told all at = λ fine.
+    told_none id (ticked_change types ms (fin.get before id)) told (closed_did types ms (fin.get before id) (over_shut types (had_ended id) (cut id) (fin.get before id)
+    (subst (λ (o : Option conns.Connection). ConnectionRepresentsAt types (held_or o (closed_by (had_ended id) (cut id))) (fin.get before id)) at (all id))))
+
+pub some_tells : (types : List ServedShape) (ms id : ℕ) (before : Connections) (old : Found) (d : conns.Connection) (told new : List (ℕ × Change)) (ran_out : Bool) → ConnectionsRepresent types old before → old id ≡ Some d
+    → ((c : Connection) → ConnectionRepresents types d c → ran_out ≡ false → new ≡ told ++ filter tells ((id, ticked_change types ms (Some c)) ∷ [])) → TellsAt types ms id before told new ran_out
+some_tells types ms id before old d told new ran_out held at tells_it = λ fine.
+    let found = some_held types (old id) (fin.get before id) d (held id) at in
+    tells_it found.0 found.2 fine ∙ ap (λ (o : Option Connection). told ++ filter tells ((id, ticked_change types ms o) ∷ [])) (sym found.1)
 
 found_by : (b : Bool) (e : conns.Connection) (o r : Option conns.Connection) → held_or (cond b (Some e) o) r ≡ cond b (Some e) (held_or o r)
 found_by true e o r = refl
@@ -223,8 +294,105 @@ ticks_more types ms before id left after some_ran_out out_of_memory sorted (whic
             by_id false e = ap (λ (b : Bool). cond b out_of_memory (which q)) e ∙ was
     some_by false false ex ey is = absurd (wrong (sym (ap₂ (λ (a b : Bool). a || b) ex ey) ∙ is))
 
+-- ---- what is told of them
+
+abbrev pub told_of : List ServedShape → ℕ → Connections → List ℕ → List (ℕ × Change)
+told_of types ms before ids = filter tells (map (λ id. (id, ticked_change types ms (fin.get before id))) ids)
+
+-- what is told so far, and what is left to be told
+abbrev pub ToldSoFar : List ServedShape → ℕ → Connections → List ℕ → List ℕ → Connections → List (ℕ × Change) → Bool → Type 0
+ToldSoFar types ms before ids left after told some_ran_out =
+    SoFar types ms before left after some_ran_out × (some_ran_out ≡ false → told ++ told_of types ms before left ≡ told_of types ms before ids)
+
+first_told : (b : Bool) (entry : ℕ × Change) (rest : List (ℕ × Change)) → cond b (entry ∷ []) [] ++ rest ≡ cond b (entry ∷ rest) rest
+first_told true entry rest = refl
+first_told false entry rest = refl
+
+pub told_more : (types : List ServedShape) (ms : ℕ) (before : Connections) (ids : List ℕ) (id : ℕ) (left : List ℕ) (after : Connections) (told new : List (ℕ × Change)) (some_ran_out out_of_memory : Bool)
+    → IsStrictlySortedBy nat_cmp (id ∷ left) → ToldSoFar types ms before ids (id ∷ left) after told some_ran_out → (out_of_memory ≡ true → due_on ms after id ≡ true) → TellsAt types ms id after told new out_of_memory
+    → ToldSoFar types ms before ids left (ticked_at types ms out_of_memory after id) new (some_ran_out || out_of_memory)
+told_more types ms before ids id left after told new some_ran_out out_of_memory sorted (so_far, was) late tells_it = (
+  ticks_more types ms before id left after some_ran_out out_of_memory sorted so_far late,
+  λ is.
+      let fine = some_more some_ran_out out_of_memory is in
+      let here : lists (id ∷ left) id ≡ true = ap (λ (b : Bool). b || lists left id) (itself id) in
+      let entry : ℕ × Change = (id, ticked_change types ms (fin.get before id)) in
+      let rest = told_of types ms before left in
+      ap (λ (l : List (ℕ × Change)). l ++ rest) (tells_it fine.1 ∙ ap (λ (o : Option Connection). told ++ filter tells ((id, ticked_change types ms o) ∷ [])) (so_far.1 id here).0)
+      ∙ append_assoc told (filter tells (entry ∷ [])) rest ∙ ap (λ (l : List (ℕ × Change)). told ++ l) (first_told (tells entry) entry rest) ∙ was fine.0,
+)
+
+ids_told : (types : List ServedShape) (ms : ℕ) (before : Connections) (ids : List ℕ) → ids_in (told_of types ms before ids) ≡ filter (λ id. tells (id, ticked_change types ms (fin.get before id))) ids
+ids_told types ms before [] = refl
+ids_told types ms before (id ∷ ids) = go (tells (id, ticked_change types ms (fin.get before id))) (ids_told types ms before ids)
+  where
+    entry : ℕ × Change
+    entry = (id, ticked_change types ms (fin.get before id))
+
+    rest : List (ℕ × Change)
+    rest = told_of types ms before ids
+
+    others : List ℕ
+    others = filter (λ k. tells (k, ticked_change types ms (fin.get before k))) ids
+
+    go : (b : Bool) → ids_in rest ≡ others → ids_in (cond b (entry ∷ rest) rest) ≡ cond b (id ∷ others) others
+    go true same = ap (λ (ks : List ℕ). id ∷ ks) same
+    go false same = same
+
+-- one of these, if its turn does something
+found_told : (types : List ServedShape) (ms : ℕ) (before : Connections) (q : ℕ) (ids : List ℕ)
+    → change_in (told_of types ms before ids) q ≡ cond (lists ids q) (if_something (ticked_change types ms (fin.get before q))) None
+found_told types ms before q [] = refl
+found_told types ms before q (id ∷ ids) =
+    looked (says_something (did id)) ∙ go (says_something (did id)) (eq_by_cmp nat_cmp q id) refl (tied_same q id) (found_told types ms before q ids)
+  where
+    did : ℕ → Change
+    did k = ticked_change types ms (fin.get before k)
+
+    rest : List (ℕ × Change)
+    rest = told_of types ms before ids
+
+    either : (b : Bool) → if_something (did q) ≡ None → cond b (if_something (did q)) None ≡ if_something (did q)
+    either true none = refl
+    either false none = sym none
+
+    look : Bool → Bool → Option Change
+    look f e = cond f (cond e (Some (did id)) (change_in rest q)) (change_in rest q)
+
+    looked : (f : Bool) → change_in (cond f ((id, did id) ∷ rest) rest) q ≡ look f (eq_by_cmp nat_cmp q id)
+    looked true = refl
+    looked false = refl
+
+    go : (f e : Bool) → says_something (did id) ≡ f → (e ≡ true → q ≡ id) → change_in rest q ≡ cond (lists ids q) (if_something (did q)) None
+        → look f e ≡ cond (e || lists ids q) (if_something (did q)) None
+    go true true something same later = sym (ap (λ (b : Bool). cond b (Some (did id)) None) something) ∙ ap (λ (k : ℕ). if_something (did k)) (sym (same refl))
+    go true false something same later = later
+    go false true something same later =
+        later ∙ either (lists ids q) (ap (λ (k : ℕ). if_something (did k)) (same refl) ∙ ap (λ (b : Bool). cond b (Some (did id)) None) something)
+    go false false something same later = later
+
+pub tell_all : (types : List ServedShape) (ms : ℕ) (before : Connections) (ids : List ℕ) (told : List (ℕ × Change)) → IsStrictlySortedBy nat_cmp ids → ((q : ℕ) → open_on before q ≡ true → lists ids q ≡ true)
+    → told ≡ told_of types ms before ids → TellAll types ms before told
+tell_all types ms before ids told sorted listed is = subst (TellAll types ms before) (sym is) (record {
+  rises = subst (IsStrictlySortedBy nat_cmp) (sym (ids_told types ms before ids)) (IsStrictlySortedBy-filter nat_cmp (λ id. tells (id, ticked_change types ms (fin.get before id))) ids sorted);
+  says = λ q. found_told types ms before q ids ∙ go q (lists ids q) refl (open_on before q) refl;
+})
+  where
+    go : (q : ℕ) (b : Bool) → lists ids q ≡ b → (o : Bool) → open_on before q ≡ o
+        → cond b (if_something (ticked_change types ms (fin.get before q))) None ≡ if_something (ticked_change types ms (fin.get before q))
+    go q true is o shut = refl
+    go q false is true opened = absurd (wrong (sym is ∙ listed q opened))
+    go q false is false shut = sym (ap if_something (closed_did types ms (fin.get before q) shut))
+
+-- ---- at the end
+
+-- each had its turn, or found no memory, as the flag says
+abbrev pub AllTicked : List ServedShape → ℕ → Connections → Found → Bool → Type 0
+AllTicked types ms before held some_ran_out = (which : ℕ → Bool) × ConnectionsRepresent types held (ticked_all types ms which before)
+    × (some_ran_out ≡ false → (q : ℕ) → which q ≡ false) × (some_ran_out ≡ true → SomeRanOutOfMemory ms which before)
+
 pub ticks_end : (types : List ServedShape) (ms : ℕ) (before after : Connections) (held : Found) (some_ran_out : Bool) → ConnectionsRepresent types held after
-    → SoFar types ms before [] after some_ran_out → TicksAll types ms before held some_ran_out
+    → SoFar types ms before [] after some_ran_out → AllTicked types ms before held some_ran_out
 ticks_end types ms before after held some_ran_out holds (which, waits, had, due, none, some) =
     let f = λ (q : ℕ) (c : Connection). killed_or_ticked types ms (which q) c in
     let same : after ≡ ticked_all types ms which before =
@@ -278,9 +446,9 @@ keeps_true : (b c : Bool) → (b ≡ true → c ≡ true) → b && c ≡ b
 keeps_true true c then = then refl
 keeps_true false c then = refl
 
-pub ticks_in : (s : State) (ms : ℕ) (shared : Shared) (old new : TheConnections) (some_ran_out : Bool) → PartsRepresent shared old s → TicksAll s.types ms s.connections (found new) some_ran_out
-    → new.open_ids.keys ≡ filter (open_held new.held) old.open_ids.keys → new.highest ≡ old.highest → IsApart new → TicksIn shared ms s new some_ran_out
-ticks_in s ms shared old new some_ran_out held (which, holds, none, some) kept same apart = (
+pub ticks_in : (s : State) (ms : ℕ) (shared : Shared) (old new : TheConnections) (told : Option (Vec (ℕ × Change) Global)) → PartsRepresent shared old s → TicksAll s.types ms s.connections (found new) told
+    → new.open_ids.keys ≡ filter (open_held new.held) old.open_ids.keys → new.highest ≡ old.highest → IsApart new → TicksIn shared ms s new told
+ticks_in s ms shared old new told held (which, holds, are_told) kept same apart = (
   which,
   record {
     machine = held.machine;
@@ -289,8 +457,7 @@ ticks_in s ms shared old new some_ran_out held (which, holds, none, some) kept s
     highest_is = λ q. new_each f s.connections q ∙ held.highest_is q ∙ sym (ap (λ (h : Option ℕ). is_above h q) same);
     apart = apart;
   },
-  none,
-  some,
+  are_told,
 )
   where
     f : ℕ → Connection → Connection
@@ -318,16 +485,26 @@ ticks_refused s ms last_tick same back = ap (λ (b : Bool). cond b (Some tick_ba
 abbrev pub IsInState : Shared → TheConnections → ℕ → State → Type 0
 IsInState shared k last_tick s = PartsRepresent shared k s × (last_tick ≡ s.last_tick)
 
-pub ticks_well : (s : State) (ms last_tick : ℕ) (shared : Shared) (new : TheConnections) (some_ran_out : Bool) → last_tick ≡ s.last_tick → nat_lt ms last_tick ≡ false → TicksIn shared ms s new some_ran_out → some_ran_out ≡ false
-    → (refusal s (ticks ms) ≡ None) × (t : State) × Steps s (ticks ms) t × IsInState shared new ms t
-ticks_well s ms last_tick shared new some_ran_out same forward (which, held, none, some) fine =
+pub ticks_well : (s : State) (ms last_tick : ℕ) (shared : Shared) (new : TheConnections) (told : Vec (ℕ × Change) Global) → last_tick ≡ s.last_tick → nat_lt ms last_tick ≡ false → TicksIn shared ms s new (Some told)
+    → (refusal s (ticks ms) ≡ None) × (t : State) × Does s (ticks ms) t (effect.Connections told) × IsInState shared new ms t
+ticks_well s ms last_tick shared new told same forward (which, held, (none, are_told)) =
     let g = λ (q : ℕ) (c : Connection). with_turn (ticked s.types ms) c in
     let free = not_back s ms last_tick same forward in
     let all : ticked_all s.types ms which s.connections ≡ each g s.connections =
-    each_same _ g s.connections (λ q c. ap (λ (b : Bool). killed_or_ticked s.types ms b c) (none fine q)) in (
+    each_same _ g s.connections (λ q c. ap (λ (b : Bool). killed_or_ticked s.types ms b c) (none q)) in (
       free,
       with_tick s ms (each g s.connections),
-      (undecided, refl, sym (ap (λ (o : Option Refusal). unless_refused o s (with_tick s ms (each g s.connections))) free)),
+      (
+        undecided,
+        refl,
+        sym (ap (λ (o : Option Refusal). unless_refused o s (with_tick s ms (each g s.connections))) free),
+        record {
+          rises = are_told.rises;
+          says = λ q.
+              are_told.says q
+              ∙ ap (λ (o : Option Connection). if_something (change_between (fin.get s.connections q) o (lines_if s.types ms (fin.get s.connections q)) None)) (sym (got_each g s.connections q));
+        },
+      ),
       subst (λ (cs : Connections). IsInState shared new ms (with_tick s ms cs)) all (held, refl),
     )
 
@@ -347,17 +524,16 @@ any_entry ms which q found (e ∷ es) due = go (eq_by_cmp nat_cmp q e.0) (tied_s
         ap₂ (λ (a b : Bool). (a && b) || list_any (λ x. which x.0 && writes_at ms x.1.phase) es) (sym (ap which (is refl)) ∙ found) here
     go false is there rest = ap (λ (b : Bool). (which e.0 && writes_at ms e.1.phase) || b) (rest there) ∙ later (which e.0 && writes_at ms e.1.phase)
 
-pub ticks_run_out : (s : State) (ms last_tick : ℕ) (shared : Shared) (new : TheConnections) (some_ran_out : Bool) → last_tick ≡ s.last_tick → nat_lt ms last_tick ≡ false → TicksIn shared ms s new some_ran_out → some_ran_out ≡ true
+pub ticks_run_out : (s : State) (ms last_tick : ℕ) (shared : Shared) (new : TheConnections) → last_tick ≡ s.last_tick → nat_lt ms last_tick ≡ false → TicksIn shared ms s new None
     → (which : ℕ → Bool) × (t : State) × RunsOutOfMemory s (ticks ms) which t × IsInState shared new ms t
-ticks_run_out s ms last_tick shared new some_ran_out same forward (which, held, none, some) out_of_memory =
-    let found = some out_of_memory in (
-      which,
-      with_tick s ms (ticked_all s.types ms which s.connections),
-      (
-        not_back s ms last_tick same forward,
-        any_entry ms which found.0 found.1 (fin.entries s.connections)
-            (sym (ap (λ (o : Option Connection). unwrap_or (option_map (λ c. writes_at ms c.phase) o) false) (fin.get-entries s.connections found.0)) ∙ found.2),
-        refl,
-      ),
-      (held, refl),
-    )
+ticks_run_out s ms last_tick shared new same forward (which, held, found) = (
+  which,
+  with_tick s ms (ticked_all s.types ms which s.connections),
+  (
+    not_back s ms last_tick same forward,
+    any_entry ms which found.0 found.1 (fin.entries s.connections)
+        (sym (ap (λ (o : Option Connection). unwrap_or (option_map (λ c. writes_at ms c.phase) o) false) (fin.get-entries s.connections found.0)) ∙ found.2),
+    refl,
+  ),
+  (held, refl),
+)

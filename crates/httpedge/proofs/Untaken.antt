@@ -14,7 +14,7 @@ use Rattle.httpedge.specs.Runs.{Follows, Action, KeepsOutput, Steps, happens, pe
 use Rattle.httpedge.specs.Steps.{Event, Refusal, State, opens, comes, goes, pumps, ticks, compacts, retypes, after_turn, answer_phase, by_connection, connection_after, killed, killed_or_ticked, opening, received_by, refusal, phase_after, start, out_of_memory, applied_event, unless_refused, with_turn, writes_at}
 use Rattle.requests.specs.Replies.{refusal_reply}
 use Rattle.httpedge.specs.Watches.{Turn, Watch, pumped, ticked}
-use Rattle.watchline.specs.Opening.{WatchFrom}
+use Rattle.answers.specs.WatchFrom.{WatchFrom}
 use Rattle.verbs.specs.Retyping.{retyping}
 use Rattle.verbs.specs.Step.{planned}
 use Rattle.httpedge.proofs.Connected.{got_each, tied_same}

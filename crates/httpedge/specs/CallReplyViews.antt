@@ -2,7 +2,7 @@
 use Rattle.std.specs.Prelude.{◌≡◌, ℕ, List, Option}
 use Rattle.api_types.specs.TypesFile.{ServedShape}
 use Rattle.history.specs.History.{History}
-use Rattle.watchline.specs.Opening.{WatchFrom}
+use Rattle.answers.specs.WatchFrom.{WatchFrom}
 use Rattle.api_request.specs.Calls.{Call}
 use Rattle.verbs.specs.declared.api.Api.{Api}
 use Rattle.verbs.specs.Machine.{after}
@@ -10,7 +10,7 @@ use Rattle.verbs.specs.Views.{ApiRepresents}
 use Rattle.verbs.specs.Step.{planned}
 use Rattle.requests.specs.Replies.{answer_bytes}
 
--- these bytes and this watch answer the call, and the API then stands for the machine after it
-abbrev pub Serves : List ServedShape → History → Call → List ℕ → Option WatchFrom → Api → Type 0
-Serves types m call bytes watch api =
-    (bytes ≡ answer_bytes (planned types m call).answer watch) × (watch ≡ (planned types m call).answer.watch) × ApiRepresents api types (after m (planned types m call).change)
+-- these bytes, this status and this watch answer the call, and the API then stands for the machine after it
+abbrev pub Serves : List ServedShape → History → Call → List ℕ → ℕ → Option WatchFrom → Api → Type 0
+Serves types m call bytes status watch api =
+    (bytes ≡ answer_bytes (planned types m call).answer watch) × (status ≡ (planned types m call).answer.status) × (watch ≡ (planned types m call).answer.watch) × ApiRepresents api types (after m (planned types m call).change)

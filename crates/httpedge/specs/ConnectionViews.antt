@@ -15,6 +15,8 @@ use Rattle.httpedge.specs.declared.out.Out as outs
 use Rattle.httpedge.specs.declared.watching.Watch as watches
 use Rattle.requests.specs.Asks.{CallDecision, Asks}
 use Rattle.httpedge.specs.Connections.{Connection, Connections, Phase, waiting, watching, ended, gone, has_ended, is_new, is_open, is_waiting, is_watching, open_on, new_connection, out_of, with_phase}
+use Rattle.httpedge.specs.Effects.{change_between, decided_status, lines_change, no_change}
+use Rattle.httpedge.specs.declared.effect.Change.{Change}
 use Rattle.httpedge.specs.IdViews.{is_in}
 use Rattle.httpedge.specs.SharedViews.{SharedRepresents}
 use Rattle.httpedge.specs.declared.shared.Shared.{Shared}
@@ -23,7 +25,7 @@ use Rattle.watchline.specs.Watches as cursors
 use Rattle.requests.specs.ReplyBytes.{chunks}
 use Rattle.requests.specs.ReadBufferViews.{buffered}
 use Rattle.requests.specs.Pendings.{Awaits}
-use Rattle.httpedge.specs.Steps.{State, connection_after, machine_after, turn_bytes}
+use Rattle.httpedge.specs.Steps.{State, connection_after, has_no_next, machine_after, turn_bytes}
 use Rattle.httpedge.specs.Watches.{Turn, Watch, unless_ended}
 
 -- ---- one connection
@@ -80,28 +82,38 @@ ConnectionRepresents types (conn.Closed had_ended) c = (is_open c.phase ≡ fals
 
 -- ---- what bytes make of it
 
--- by all these bytes a connection that waited becomes this one, after this tick, and the API then stands for the machine that they lead to
-abbrev pub Becomes : List ServedShape → History → ℕ → List ℕ → conns.Connection → Api → Type 0
-Becomes types m last_tick bytes c api =
-    (decision : CallDecision) × Asks types bytes decision × ConnectionRepresents types c (connection_after types m last_tick new_connection bytes decision) × ApiRepresents api types (machine_after types m decision)
+-- what bytes do to a connection that waited for them, by what they ask
+abbrev pub received_change : List ServedShape → History → ℕ → Connection → List ℕ → CallDecision → Change
+received_change types m last_tick c bytes decision = change_between (Some c) (Some (connection_after types m last_tick c bytes decision)) 0 (decided_status types m decision)
+
+-- by all these bytes a connection that waited becomes this one, after this tick, that is this change, and the API then stands for the machine that
+-- they lead to
+abbrev pub Becomes : List ServedShape → History → ℕ → List ℕ → conns.Connection → Change → Api → Type 0
+Becomes types m last_tick bytes c change api =
+    (decision : CallDecision) × Asks types bytes decision × ConnectionRepresents types c (connection_after types m last_tick new_connection bytes decision)
+    × (change ≡ received_change types m last_tick new_connection bytes decision) × ApiRepresents api types (machine_after types m decision)
 
 -- by how it stood
-abbrev pub ReceivesRepresentedBy : List ServedShape → History → ℕ → Connection → Phase → List ℕ → conns.Connection → Api → Type 0
-ReceivesRepresentedBy types m last_tick c (waiting prefix) bytes d api = (c ≡ waiting_for prefix) × Becomes types m last_tick (prefix ++ bytes) d api
-ReceivesRepresentedBy types m last_tick c _ bytes d api = ConnectionRepresents types d c × ApiRepresents api types m
+abbrev pub ReceivesRepresentedBy : List ServedShape → History → ℕ → Connection → Phase → List ℕ → conns.Connection → Change → Api → Type 0
+ReceivesRepresentedBy types m last_tick c (waiting prefix) bytes d change api = (c ≡ waiting_for prefix) × Becomes types m last_tick (prefix ++ bytes) d change api
+ReceivesRepresentedBy types m last_tick c _ bytes d change api = ConnectionRepresents types d c × (change ≡ no_change) × ApiRepresents api types m
 
-abbrev pub ReceivesRepresented : List ServedShape → History → ℕ → Connection → List ℕ → conns.Connection → Api → Type 0
-ReceivesRepresented types m last_tick c bytes d api = ReceivesRepresentedBy types m last_tick c c.phase bytes d api
+abbrev pub ReceivesRepresented : List ServedShape → History → ℕ → Connection → List ℕ → conns.Connection → Change → Api → Type 0
+ReceivesRepresented types m last_tick c bytes d change api = ReceivesRepresentedBy types m last_tick c c.phase bytes d change api
 
 -- ---- a watch's turn
 
--- the bytes of these lines are written behind what was out, and the cursor stands where they lead
-abbrev pub Pumps : cursors.Turn → Bool → Cursor → List ℕ → List ℕ → Type 0
-Pumps t has_ended next old new = (new ≡ old ++ chunks t.lines t.ended) × (has_ended ≡ t.ended) × (next ≡ t.next)
+-- the bytes of these lines are written behind what was out, that is this change, and the cursor stands where they lead
+abbrev pub Pumps : cursors.Turn → Change → Cursor → List ℕ → List ℕ → Type 0
+Pumps t change next old new = (new ≡ old ++ chunks t.lines t.ended) × (change ≡ lines_change (chunks t.lines t.ended) (length t.lines) t.ended) × (next ≡ t.next)
 
--- it wrote what this turn writes behind what was out, and then stands so, unless it has ended
-abbrev pub Turns : Turn → Bool → Watch → List ℕ → List ℕ → Type 0
-Turns t has_ended w old new = (new ≡ old ++ turn_bytes t) × (t.next ≡ unless_ended has_ended w)
+-- what a watch does at this turn
+abbrev pub turn_change : Turn → Change
+turn_change t = lines_change (turn_bytes t) (length t.lines) (has_no_next t.next)
+
+-- it wrote what this turn writes behind what was out, that is this change, and then stands so, unless it has ended
+abbrev pub Turns : Turn → Change → Watch → List ℕ → List ℕ → Type 0
+Turns t change w old new = (new ≡ old ++ turn_bytes t) × (change ≡ turn_change t) × (t.next ≡ unless_ended change.has_ended w)
 
 -- ---- all connections
 

@@ -6,12 +6,14 @@ use Rattle.serde_json.specs.View.{view}
 use Rattle.api_types.specs.declared.fault.TypesFault.{TypesFault}
 use Rattle.verbs.specs.Retyping.{not_types, not_lawful, too_few_revisions}
 use Rattle.verbs.specs.Views.{IsFileFault}
+use Rattle.httpedge.specs.declared.effect.Effect.{Effect}
 use Rattle.httpedge.specs.declared.event.Event as events
 use Rattle.httpedge.specs.declared.event.Event.TheVariants as event
 use Rattle.httpedge.specs.declared.fault.HubFault as faults
 use Rattle.httpedge.specs.declared.fault.HubFault.TheVariants as fault
 use Rattle.httpedge.specs.declared.hub.Hub as hubs
 use Rattle.httpedge.specs.ConnectionViews.{PartsRepresent}
+use Rattle.httpedge.specs.Effects.{Does}
 use Rattle.httpedge.specs.Runs.{Action, Steps, happens, runs_out_of_memory}
 use Rattle.httpedge.specs.Steps.{Event, Refusal, RunsOutOfMemory, State, early_refusal, refusal, opens, comes, goes, pumps, ticks, compacts, retypes, id_not_above, unknown_id, no_lines, tick_back, compaction_refused, types_refused}
 
@@ -90,3 +92,8 @@ abbrev pub StepsOrRefuses : hubs.Hub → Event → Outcome → hubs.Hub → Type
 StepsOrRefuses old e done new = (s : State) → HubRepresents old s → (refusal s e ≡ None) × (t : State) × Steps s e t × HubRepresents new t
 StepsOrRefuses old e (refused why) new = (new ≡ old) × ((s : State) → HubRepresents old s → refusal s e ≡ Some why)
 StepsOrRefuses old e out_of_memory new = (s : State) → HubRepresents old s → (which : ℕ → Bool) × (t : State) × RunsOutOfMemory s e which t × HubRepresents new t
+
+-- the same by what the call answers: what the event did, or why it failed
+abbrev pub Handles : hubs.Hub → Event → Result Effect faults.HubFault → hubs.Hub → Type 0
+Handles old e (Ok effect) new = (s : State) → HubRepresents old s → (refusal s e ≡ None) × (t : State) × Does s e t effect × HubRepresents new t
+Handles old e (Err fault) new = StepsOrRefuses old e (outcome_of {A = Effect} (Err fault)) new

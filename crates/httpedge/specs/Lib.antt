@@ -2,6 +2,7 @@ pub mod Watches
 pub mod Connections
 pub mod Steps
 pub mod Runs
+pub mod Effects
 pub mod NextTurns
 pub mod IdViews
 pub mod SharedViews

@@ -1,20 +1,22 @@
 -- When what all connections share stands for a machine: the API does, and the last turn is what a watch sends from that machine.
-use Rattle.std.specs.Prelude.{◌≡◌, ℕ, List, Option, Some, IfSome}
+use Rattle.std.specs.Prelude.{◌≡◌, ℕ, List, length, Option, Some, IfSome}
 use Rattle.api_types.specs.TypesFile.{ServedShape}
 use Rattle.history.specs.History.{History}
 use Rattle.verbs.specs.Views.{ApiRepresents}
 use Rattle.watchline.specs.Watches.{Cursor, from_history, moved, pumped}
 use Rattle.watchline.specs.declared.cursor.ResumePoint.{ResumePoint}
 use Rattle.requests.specs.ReplyBytes.{chunks}
+use Rattle.httpedge.specs.Effects.{lines_change}
 use Rattle.httpedge.specs.declared.shared.CachedTurn.{CachedTurn}
 use Rattle.httpedge.specs.declared.shared.Shared.{Shared}
 
--- a watch that stands as the turn's did sends these lines, and its bytes are their chunks
+-- a watch that stands as the turn's did sends these lines, its bytes are their chunks, and its change says so
 pub record IsTurnFrom (m : History) (last : CachedTurn) : Type 0 where
   pub lines : List (List ℕ)
   pub sent : pumped (from_history m) last.max last.before
-      ≡ record { lines = lines; ended = last.has_ended; next = moved last.before last.resume_point.position last.resume_point.sent last.before.left }
-  pub bytes : last.bytes.items ≡ chunks lines last.has_ended
+      ≡ record { lines = lines; ended = last.change.has_ended; next = moved last.before last.resume_point.position last.resume_point.sent last.before.left }
+  pub bytes : last.bytes.items ≡ chunks lines last.change.has_ended
+  pub did : last.change ≡ lines_change (chunks lines last.change.has_ended) (length lines) last.change.has_ended
 
 -- a turn's end points, for private clauses: the cursor after it (`next`) and before it, the point that it was sent from and the one that it was sent to
 pub record TurnSpan (there : Option ResumePoint) (next before : Cursor) (here : ResumePoint) : Type 0 where

@@ -18,7 +18,7 @@ use Rattle.requests.specs.Refusals.{as_denied, too_many_connections}
 use Rattle.requests.specs.Replies.{answer_bytes, refusal_reply}
 use Rattle.requests.specs.ReplyBytes.{chunks}
 use Rattle.httpedge.specs.Watches.{Watch, Turn, begun_at, is_due, pumped, ticked}
-use Rattle.watchline.specs.Opening.{WatchFrom}
+use Rattle.answers.specs.WatchFrom.{WatchFrom}
 
 pub record State : Type 0 where
   pub types : List ServedShape

@@ -3,7 +3,8 @@
 use Rattle.std.specs.Prelude.{ℕ, ◌*◌, ◌-◌, Bool, ◌&&◌, ◌||◌, nat_lt, nat_le, if◌then◌else◌, List, [], ◌∷◌, Option, Some, None}
 use Rattle.api_types.specs.TypesFile.{ServedShape}
 use Rattle.history.specs.History.{History}
-use Rattle.watchline.specs.Opening.{WatchFrom, first_cursor}
+use Rattle.answers.specs.WatchFrom.{WatchFrom}
+use Rattle.watchline.specs.Opening.{first_cursor}
 use Rattle.watchline.specs.Watches.{Cursor, BookmarkTurn, from_history, is_bookmark_due}
 use Rattle.watchline.specs.Watches as cursors
 use Rattle.verbs.specs.Watching.{bookmarked_in}

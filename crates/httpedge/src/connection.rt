@@ -1,15 +1,18 @@
 //! One connection: its state, and how an event changes it. Its watch stands in `watching` and `turns`, all connections in
 //! `connections`.
 
-ghost use Rattle.std.specs.Prelude.{◌≡◌, ◌++◌, ℕ, List, None, true, Ok, IfOk, OnOk, OnErr, option_map};
+ghost use Rattle.std.specs.Prelude.{◌≡◌, ◌++◌, ℕ, List, None, Some, true, Ok, IfOk, OnErr, is_none, option_map};
 ghost use Rattle.api_types.specs.TypesFile.{ServedShape};
 ghost use Rattle.history.specs.History.{History};
 ghost use Rattle.api_request.specs.Calls.{Answer};
+ghost use Rattle.api_request.specs.Reasons.{code_of};
+ghost use Rattle.api_request.specs.Views.{denied_of};
 ghost use Rattle.verbs.specs.Views.{ApiRepresents};
 ghost use Rattle.httpedge.specs.ChangeViews.{MakesRepresented, takes_memory_on};
 ghost use Rattle.httpedge.specs.Connections as model;
-ghost use Rattle.httpedge.specs.Connections.{Connections, ended, gone, open_count, new_connection, with_phase, with_taken};
+ghost use Rattle.httpedge.specs.Connections.{Connections, ended, gone, open_count, new_connection, with_phase, with_taken, with_written};
 ghost use Rattle.httpedge.specs.ConnectionViews.{Becomes, ConnectionRepresents, ReceivesRepresented, has_ended_in, is_open_in, is_waiting_in, out_in, had_ended_if_over_in, phase_in};
+ghost use Rattle.httpedge.specs.Effects.{answer_change, change_between, no_change, opening_status};
 ghost use Rattle.httpedge.specs.HubViews.{event_of};
 ghost use Rattle.httpedge.specs.NextTurns.{turn_in};
 ghost use Rattle.requests.specs.ReadBufferViews.{buffered};
@@ -17,15 +20,17 @@ ghost use Rattle.requests.specs.Pendings.{Awaits, Finds};
 ghost use Rattle.httpedge.specs.SharedViews.{SharedRepresents};
 ghost use Rattle.httpedge.specs.Steps.{answered, opening};
 ghost use Rattle.httpedge.specs.declared.event.ConnectionInput.TheVariants as changes;
-ghost use Rattle.requests.specs.Replies.{answer_bytes};
-ghost use Rattle.watchline.specs.Views.{watch_from};
+ghost use Rattle.requests.specs.Replies.{answer_bytes, refusal_reply as refusal_bytes};
+ghost use Rattle.answers.specs.Views.{watch_from};
 
 use crate::answering::{CallReply, serve};
+use crate::effect::Change;
 use crate::event::{ConnectionInput, Event};
 use crate::out::Out;
 use crate::shared::Shared;
 use crate::turns::pump_on;
 use crate::watching::Watch;
+use api_request::Denied;
 use requests::{Pending, Progress, ReadBuffer, Refusal, ask, ask_on, refusal_reply};
 use std::alloc::{AllocError, Global};
 use std::mem;
@@ -48,15 +53,31 @@ pub(crate) enum Connection {
     Closed(bool),
 }
 
-/// A new connection where `count` are open; past the limit it is refused.
-pub(crate) fn opening(alloc: Global, count: usize) -> Result<Connection, AllocError>
-    ensures { (types : List ServedShape) (all : Connections) → count ≡ open_count all → IfOk result (λ c. ConnectionRepresents types c (opening all)) }
+/// A new connection where `count` are open, and what its opening did; past the limit it is refused.
+pub(crate) fn opening(alloc: Global, count: usize) -> Result<(Connection, Change), AllocError>
+    ensures represents { (types : List ServedShape) (all : Connections) → count ≡ open_count all → IfOk result (λ p. ConnectionRepresents types p.0 (opening all)) }
+    ensures did { (all : Connections) → count ≡ open_count all → IfOk result (λ p. p.1 ≡ change_between None (Some (opening all)) 0 (opening_status all)) }
 {
     if count < MAX_OPEN {
-        return Ok(Connection::Head(ReadBuffer::new(alloc)));
+        return Ok((Connection::Head(ReadBuffer::new(alloc)), Change::none()));
     }
-    let reply = refusal_reply(alloc, Refusal::TooManyConnections.denied())?;
-    Ok(Connection::Ended(Out::of(reply)))
+    refused(alloc, Refusal::TooManyConnections.denied())
+}
+
+/// A connection on which nothing was written gets the reply of a refusal, and has ended; what that did.
+fn refused(alloc: Global, denied: Denied) -> Result<(Connection, Change), AllocError>
+    ensures represents { (types : List ServedShape) → IfOk result (λ p. ConnectionRepresents types p.0 (with_written new_connection (refusal_bytes (denied_of denied)) ended)) }
+    ensures did { IfOk result (λ p. p.1 ≡ answer_change (refusal_bytes (denied_of denied)) (code_of denied.reason) true) }
+{
+    let status = Some(denied.reason.code());
+    let reply = refusal_reply(alloc, denied)?;
+    let change = Change {
+        bytes: reply.len(),
+        lines: 0,
+        status,
+        has_ended: true,
+    };
+    Ok((Connection::Ended(Out::of(reply)), change))
 }
 
 pub(crate) fn is_open(connection: &Connection) -> bool
@@ -150,34 +171,48 @@ pub(crate) fn go_from(connection: &mut Connection)
     *connection = Connection::Closed(had_ended);
 }
 
-/// What becomes of a connection with the answer of its call, after this tick.
-fn answered(served: CallReply, last_tick: u64) -> Connection
-    ensures { (types : List ServedShape) (a : Answer) → served.bytes.items ≡ answer_bytes a a.watch → option_map watch_from served.watch ≡ a.watch
-        → ConnectionRepresents types result (answered last_tick new_connection a) }
+/// What becomes of a connection with the answer of its call, after this tick, and what that did.
+fn answered(served: CallReply, last_tick: u64) -> (Connection, Change)
+    ensures represents { (types : List ServedShape) (a : Answer) → served.bytes.items ≡ answer_bytes a a.watch → option_map watch_from served.watch ≡ a.watch
+        → ConnectionRepresents types result.0 (answered last_tick new_connection a) }
+    ensures did { result.1 ≡ answer_change served.bytes.items served.status (is_none served.watch) }
 {
-    let CallReply { bytes, watch } = served;
+    let CallReply {
+        bytes,
+        status,
+        watch,
+    } = served;
+    let change = Change {
+        bytes: bytes.len(),
+        lines: 0,
+        status: Some(status),
+        has_ended: watch.is_none(),
+    };
     let out = Out::of(bytes);
     match watch {
-        None => Connection::Ended(out),
-        Some(from) => Connection::Watch(Watch::begun(last_tick, from), out),
+        None => (Connection::Ended(out), change),
+        Some(from) => (
+            Connection::Watch(Watch::begun(last_tick, from), out),
+            change,
+        ),
     }
 }
 
-/// What becomes of a connection by what its bytes ask.
+/// What becomes of a connection by what its bytes ask, and what that did.
 fn decided(
     alloc: Global,
     api: &mut Api,
     decision: Progress,
     last_tick: u64,
-) -> Result<Connection, Fault>
-    ensures ok { (types : List ServedShape) (m : History) (bytes : List ℕ) → ApiRepresents api.old types m → Finds types bytes decision → IfOk result (λ c. Becomes types m last_tick bytes c api.new) }
+) -> Result<(Connection, Change), Fault>
+    ensures ok { (types : List ServedShape) (m : History) (bytes : List ℕ) → ApiRepresents api.old types m → Finds types bytes decision → IfOk result (λ p. Becomes types m last_tick bytes p.0 p.1 api.new) }
     ensures err { (types : List ServedShape) (m : History) → ApiRepresents api.old types m → OnErr result (ApiRepresents api.new types m) }
 {
     match decision {
-        Progress::Pending(pending) => Ok(Connection::Body(pending)),
+        Progress::Pending(pending) => Ok((Connection::Body(pending), Change::none())),
         Progress::Refused(denied) => {
-            let reply = refusal_reply(alloc, denied)?;
-            Ok(Connection::Ended(Out::of(reply)))
+            let reply = refused(alloc, denied)?;
+            Ok(reply)
         }
         Progress::Call(call) => {
             let served = serve(alloc, api, &call)?;
@@ -192,14 +227,14 @@ fn receive_head(
     prefix: ReadBuffer,
     bytes: &[u8],
     last_tick: u64,
-) -> Result<Connection, Fault>
-    ensures ok { (types : List ServedShape) (m : History) → ApiRepresents api.old types m → IfOk result (λ c. Becomes types m last_tick (buffered prefix ++ bytes.now) c api.new) }
+) -> Result<(Connection, Change), Fault>
+    ensures ok { (types : List ServedShape) (m : History) → ApiRepresents api.old types m → IfOk result (λ p. Becomes types m last_tick (buffered prefix ++ bytes.now) p.0 p.1 api.new) }
     ensures err { (types : List ServedShape) (m : History) → ApiRepresents api.old types m → OnErr result (ApiRepresents api.new types m) }
 {
     let mut prefix = prefix.with(bytes)?;
     let end = prefix.find_end();
     match ask(alloc, api.routes(), api.types(), prefix.bytes(), end)? {
-        None => Ok(Connection::Head(prefix)),
+        None => Ok((Connection::Head(prefix), Change::none())),
         Some(decision) => decided(alloc, api, decision, last_tick),
     }
 }
@@ -210,8 +245,8 @@ fn receive_body(
     pending: Pending,
     bytes: &[u8],
     last_tick: u64,
-) -> Result<Connection, Fault>
-    ensures ok { (types : List ServedShape) (m : History) (prefix : List ℕ) → ApiRepresents api.old types m → Awaits types prefix pending → IfOk result (λ c. Becomes types m last_tick (prefix ++ bytes.now) c api.new) }
+) -> Result<(Connection, Change), Fault>
+    ensures ok { (types : List ServedShape) (m : History) (prefix : List ℕ) → ApiRepresents api.old types m → Awaits types prefix pending → IfOk result (λ p. Becomes types m last_tick (prefix ++ bytes.now) p.0 p.1 api.new) }
     ensures err { (types : List ServedShape) (m : History) → ApiRepresents api.old types m → OnErr result (ApiRepresents api.new types m) }
 {
     let decision = ask_on(alloc, pending, bytes)?;
@@ -224,30 +259,30 @@ fn receive(
     connection: Connection,
     bytes: &[u8],
     last_tick: u64,
-) -> Result<Connection, Fault>
-    ensures ok { (types : List ServedShape) (m : History) (c : model.Connection) → ApiRepresents api.old types m → ConnectionRepresents types connection c → IfOk result (λ d. ReceivesRepresented types m last_tick c bytes.now d api.new) }
+) -> Result<(Connection, Change), Fault>
+    ensures ok { (types : List ServedShape) (m : History) (c : model.Connection) → ApiRepresents api.old types m → ConnectionRepresents types connection c → IfOk result (λ p. ReceivesRepresented types m last_tick c bytes.now p.0 p.1 api.new) }
     ensures err { (types : List ServedShape) (m : History) → ApiRepresents api.old types m → OnErr result (ApiRepresents api.new types m) }
     ensures waited { OnErr result (is_waiting_in connection ≡ true) }
 {
     match connection {
         Connection::Head(prefix) => receive_head(alloc, api, prefix, bytes, last_tick),
         Connection::Body(pending) => receive_body(alloc, api, pending, bytes, last_tick),
-        Connection::Watch(watch, out) => Ok(Connection::Watch(watch, out)),
-        Connection::Ended(out) => Ok(Connection::Ended(out)),
-        Connection::Closed(had_ended) => Ok(Connection::Closed(had_ended)),
+        Connection::Watch(watch, out) => Ok((Connection::Watch(watch, out), Change::none())),
+        Connection::Ended(out) => Ok((Connection::Ended(out), Change::none())),
+        Connection::Closed(had_ended) => Ok((Connection::Closed(had_ended), Change::none())),
     }
 }
 
-/// Bytes come on a connection; out of memory, it is dead. One that waits for no bytes needs no memory. What they ask may
-/// change what watches send, so that no turn is the last one.
+/// Bytes come on a connection; what that did. Out of memory, it is dead. One that waits for no bytes needs no memory. What
+/// they ask may change what watches send, so that no turn is the last one.
 pub(crate) fn receive_on(
     alloc: Global,
     shared: &mut Shared,
     connection: &mut Connection,
     bytes: &[u8],
     last_tick: u64,
-) -> Result<(), Fault>
-    ensures ok { (types : List ServedShape) (m : History) (c : model.Connection) → SharedRepresents shared.old types m → ConnectionRepresents types connection.old c → OnOk result (ReceivesRepresented types m last_tick c bytes.now connection.new shared.new.api) }
+) -> Result<Change, Fault>
+    ensures ok { (types : List ServedShape) (m : History) (c : model.Connection) → SharedRepresents shared.old types m → ConnectionRepresents types connection.old c → IfOk result (λ change. ReceivesRepresented types m last_tick c bytes.now connection.new change shared.new.api) }
     ensures forgotten { shared.new.last ≡ None }
     ensures err { (types : List ServedShape) (m : History) → SharedRepresents shared.old types m → OnErr result (SharedRepresents shared.new types m) }
     ensures waited { OnErr result (is_waiting_in connection.old ≡ true) }
@@ -256,30 +291,33 @@ pub(crate) fn receive_on(
     shared.last = None;
     let killed = Connection::Ended(Out::empty(alloc));
     let was = mem::replace(connection, killed);
-    *connection = receive(alloc, &mut shared.api, was, bytes, last_tick)?;
-    Ok(())
+    let received = receive(alloc, &mut shared.api, was, bytes, last_tick)?;
+    let (became, change) = received;
+    *connection = became;
+    Ok(change)
 }
 
-/// Changes a connection; out of memory, one that waits is dead where bytes come on it, and a watch where it is pumped.
+/// Changes a connection; what that did. Out of memory, one that waits is dead where bytes come on it, and a watch where it is
+/// pumped.
 pub(crate) fn change(
     alloc: Global,
     shared: &mut Shared,
     connection: &mut Connection,
     what: ConnectionInput,
     last_tick: u64,
-) -> Result<(), Fault>
-    ensures ok { (types : List ServedShape) (m : History) (c : model.Connection) → SharedRepresents shared.old types m → ConnectionRepresents types connection.old c → OnOk result (MakesRepresented types m last_tick what.entry c connection.new shared.new) }
+) -> Result<Change, Fault>
+    ensures ok { (types : List ServedShape) (m : History) (c : model.Connection) → SharedRepresents shared.old types m → ConnectionRepresents types connection.old c → IfOk result (λ change. MakesRepresented types m last_tick what.entry c connection.new change shared.new) }
     ensures err { (types : List ServedShape) (m : History) → SharedRepresents shared.old types m → OnErr result (SharedRepresents shared.new types m) }
     ensures could { (types : List ServedShape) (c : model.Connection) → ConnectionRepresents types connection.old c → OnErr result (takes_memory_on what.entry c.phase ≡ true) }
     ensures killed { (types : List ServedShape) (c : model.Connection) → ConnectionRepresents types connection.old c → OnErr result (ConnectionRepresents types connection.new (with_phase c ended)) }
-    ensures gone { what.entry ≡ changes.Gone → result ≡ Ok tt }
+    ensures gone { what.entry ≡ changes.Gone → result ≡ Ok no_change }
 {
     match what {
         ConnectionInput::Bytes(bytes) => receive_on(alloc, shared, connection, bytes, last_tick),
         ConnectionInput::Lines(max) => pump_on(alloc, shared, connection, max),
         ConnectionInput::Gone => {
             go_from(connection);
-            Ok(())
+            Ok(Change::none())
         }
     }
 }

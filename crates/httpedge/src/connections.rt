@@ -1,7 +1,7 @@
 //! All connections that were ever opened, by their ids: those that are open, and those that are over, of which ranges of ids
 //! are left. How one of them changes stands in `connection`, how all have their turn at a tick in `ticking`.
 
-ghost use Rattle.std.specs.Prelude.{◌≡◌, ◌≢◌, [], ℕ, Bool, List, None, Some, Err, true, false, cond, is_some, unwrap_or, option_and_then, option_map, OnOk, OnErr};
+ghost use Rattle.std.specs.Prelude.{◌≡◌, ◌≢◌, [], ℕ, Bool, List, None, Some, Ok, Err, true, false, cond, is_some, unwrap_or, option_and_then, option_map, OnOk, OnErr};
 ghost use Rattle.std.specs.BTreeMap.{get};
 ghost use Rattle.std.specs.Ordering.{nat_cmp};
 ghost use Rattle.api_types.specs.TypesFile.{ServedShape};
@@ -10,13 +10,14 @@ ghost use Rattle.httpedge.specs.ChangeViews.{Changes};
 ghost use Rattle.httpedge.specs.Connections.{Connection as TheConnection};
 ghost use Rattle.httpedge.specs.Connections.{open_count, with_taken};
 ghost use Rattle.httpedge.specs.ConnectionViews.{BecomesAt, OpenIdsAfter, Forgets, ConnectionRepresents, IsApart, IsAt, IsFresh, IsSame, Opens, PartsRepresent, found, has_ended_in, is_waiting_in, kept_in, out_in, had_ended_if_over_in, had_ended_by_ids, phase_in};
-ghost use Rattle.httpedge.specs.HubViews.{done, event_of, outcome_of, refusal_in, refused};
+ghost use Rattle.httpedge.specs.HubViews.{event_of, outcome_of, refusal_in, refused};
 ghost use Rattle.httpedge.specs.IdViews.{is_in};
 ghost use Rattle.httpedge.specs.NextTurns.{turn_in};
 ghost use Rattle.httpedge.specs.SharedViews.{SharedRepresents};
 ghost use Rattle.httpedge.specs.Steps.{State, start, unknown_id};
 ghost use Rattle.httpedge.specs.TickViews.{TicksIn};
 ghost use Rattle.httpedge.specs.declared.connection.Connection as held;
+ghost use Rattle.httpedge.specs.declared.effect.Effect.TheVariants as effect;
 ghost use Rattle.httpedge.specs.declared.event.ConnectionInput.TheVariants as changes;
 ghost use Rattle.httpedge.specs.declared.fault.HubFault.TheVariants as fault;
 ghost use Rattle.httpedge.specs.declared.shared.Shared as shares;
@@ -25,6 +26,7 @@ use crate::connection::{
     Connection, change, had_ended_if_over, has_ended, is_open, is_waiting, next_turn, out_of,
     take_from,
 };
+use crate::effect::{Change, Effect};
 use crate::event::{ConnectionInput, Event};
 use crate::fault::HubFault;
 use crate::ids::Ids;
@@ -166,7 +168,7 @@ impl Connections {
         Ok(())
     }
 
-    /// Changes the connection of an id. Nothing becomes of one that is over.
+    /// Changes the connection of an id; what that did. Nothing becomes of one that is over.
     pub(crate) fn change(
         &mut self,
         alloc: Global,
@@ -174,9 +176,9 @@ impl Connections {
         id: u64,
         what: ConnectionInput,
         last_tick: u64,
-    ) -> Result<(), HubFault>
+    ) -> Result<Effect, HubFault>
         ensures known { (types : List ServedShape) (m : History) (d : held.Connection) (c : TheConnection) → SharedRepresents shared.old types m → IsAt id d self.old → ConnectionRepresents types d c
-            → Changes types m last_tick what.entry id c self.old self.new shared.new (outcome_of result) }
+            → Changes types m last_tick what.entry id c self.old self.new shared.new result }
         ensures unknown { found self.old id ≡ None → (outcome_of result ≡ refused unknown_id) × (self.new ≡ self.old) × (shared.new ≡ shared.old) }
         ensures taken { is_some (found self.old id) ≡ true → refusal_in (outcome_of result) ≡ None }
         ensures gone { what.entry ≡ changes.Gone → result ≢ Err fault.Store }
@@ -190,7 +192,7 @@ impl Connections {
                 self.close(id, still_open);
                 self.forget(id, had_ended);
                 match changed {
-                    Ok(()) => Ok(()),
+                    Ok(change) => Ok(Effect::of(id, change)),
                     Err(fault) => Err(HubFault::from(fault)),
                 }
             }
@@ -198,12 +200,12 @@ impl Connections {
     }
 
     /// One that isn't held is over, or unknown.
-    fn answer_unheld(&self, id: u64) -> Result<(), HubFault>
-        ensures outcome { outcome_of result ≡ cond (is_some (had_ended_by_ids (is_in self.now.ended.ranges id) (is_in self.now.cut.ranges id))) done (refused unknown_id) }
+    fn answer_unheld(&self, id: u64) -> Result<Effect, HubFault>
+        ensures outcome { result ≡ cond (is_some (had_ended_by_ids (is_in self.now.ended.ranges id) (is_in self.now.cut.ranges id))) (Ok effect.Nothing) (Err fault.UnknownId) }
         ensures store { result ≢ Err fault.Store }
     {
         if self.had_ended_if_over(id).is_some() {
-            Ok(())
+            Ok(Effect::Nothing)
         } else {
             Err(HubFault::UnknownId)
         }
@@ -225,13 +227,13 @@ impl Connections {
         }
     }
 
-    /// Each open connection has its turn at a tick; whether one was out of memory.
-    pub(crate) fn tick(&mut self, alloc: Global, api: &Api, ms: u64) -> bool
+    /// Each open connection has its turn at a tick; what that did, unless one was out of memory.
+    pub(crate) fn tick(&mut self, alloc: Global, api: &Api, ms: u64) -> Option<Vec<(u64, Change)>>
         ensures { (shared : shares.Shared) (s : State) → shared.api ≡ api.now → PartsRepresent shared self.old s → TicksIn shared ms s self.new result }
     {
-        let some_ran_out = tick_all(alloc, api, &mut self.held, &self.open_ids, ms);
+        let changes = tick_all(alloc, api, &mut self.held, &self.open_ids, ms);
         drop_ended(&mut self.open_ids, &self.held);
-        some_ran_out
+        changes
     }
 
     /// The id of one that isn't open is no longer among those that are.

@@ -1,6 +1,6 @@
 //! The hub: an API and its connections, which events change. The connections stand in `connections`.
 
-ghost use Rattle.std.specs.Prelude.{◌≡◌, ◌≢◌, ◌++◌, ◌∷◌, [], ℕ, List, Some, None, true, false, Err, Ok, OnOk, OnErr, option_map};
+ghost use Rattle.std.specs.Prelude.{◌≡◌, ◌≢◌, ◌++◌, ◌∷◌, [], ℕ, List, Some, None, true, false, Err, Ok, IfOk, OnErr, option_map};
 ghost use Rattle.api_types.specs.TypesFile.{ServedShape};
 ghost use Rattle.history.specs.History.{History};
 ghost use Rattle.verbs.specs.Views.{ApiRepresents};
@@ -8,14 +8,16 @@ ghost use Rattle.httpedge.specs.ChangeViews.{event_on};
 ghost use Rattle.httpedge.specs.Connections.{ended_on, next_id, out_on, waiting_on};
 ghost use Rattle.httpedge.specs.ConnectionViews.{is_above, kept_in};
 ghost use Rattle.serde_json.specs.View.{view};
-ghost use Rattle.httpedge.specs.HubViews.{StepsOrRefuses, IsActionOf, HubRepresents, ReportsOutcome, ReportsFile, asks_store, event_of, outcome_of, refusal_in};
+ghost use Rattle.httpedge.specs.Effects.{Does};
+ghost use Rattle.httpedge.specs.HubViews.{Handles, IsActionOf, HubRepresents, ReportsOutcome, ReportsFile, asks_store, event_of, outcome_of, refusal_in};
 ghost use Rattle.httpedge.specs.NextTurns.{next_turn};
-ghost use Rattle.httpedge.specs.Runs.{Follows, Action, Runs, Steps, takes};
+ghost use Rattle.httpedge.specs.Runs.{Follows, Action, Runs, takes};
 ghost use Rattle.httpedge.specs.declared.event.ConnectionInput.TheVariants as changes;
 ghost use Rattle.httpedge.specs.Steps.{State, compacts, opens, pumps, retypes, start, ticks, with_bytes_taken};
 
 use crate::connection::opening;
 use crate::connections::Connections;
+use crate::effect::Effect;
 use crate::event::{ConnectionInput, Event};
 use crate::fault::HubFault;
 use crate::shared::Shared;
@@ -68,38 +70,40 @@ impl Hub {
     }
 
     /// Opens a connection under an id that is above all others.
-    fn open_above(&mut self, id: u64) -> Result<(), AllocError>
-        ensures ok { (s : State) → HubRepresents self.old s → is_above self.old.connections.highest id ≡ true → OnOk result ((t : State) × Steps s (opens id) t × HubRepresents self.new t) }
+    fn open_above(&mut self, id: u64) -> Result<Effect, AllocError>
+        ensures ok { (s : State) → HubRepresents self.old s → is_above self.old.connections.highest id ≡ true → IfOk result (λ effect. (t : State) × Does s (opens id) t effect × HubRepresents self.new t) }
         ensures err { (s : State) → HubRepresents self.old s → is_above self.old.connections.highest id ≡ true → OnErr result (HubRepresents self.new s) }
     {
-        let connection = opening(self.alloc, self.connections.open_count())?;
-        self.connections.open(id, connection)
+        let opened = opening(self.alloc, self.connections.open_count())?;
+        let (connection, change) = opened;
+        self.connections.open(id, connection)?;
+        Ok(Effect::of(id, change))
     }
 
-    fn open(&mut self, id: u64) -> Result<(), HubFault>
-        ensures handles { StepsOrRefuses self.old (opens id) (outcome_of result) self.new }
+    fn open(&mut self, id: u64) -> Result<Effect, HubFault>
+        ensures handles { Handles self.old (opens id) result self.new }
         ensures store { result ≢ Err HubFault.Store }
     {
         if !is_above(self.connections.highest(), id) {
             return Err(HubFault::IdNotAbove);
         }
         match self.open_above(id) {
-            Ok(()) => Ok(()),
+            Ok(effect) => Ok(effect),
             Err(_) => Err(HubFault::Memory),
         }
     }
 
     /// Changes the connection of an id.
-    fn change(&mut self, id: u64, what: ConnectionInput) -> Result<(), HubFault>
-        ensures handles { what.entry ≢ changes.Lines 0 → StepsOrRefuses self.old (event_on id what.entry) (outcome_of result) self.new }
+    fn change(&mut self, id: u64, what: ConnectionInput) -> Result<Effect, HubFault>
+        ensures handles { what.entry ≢ changes.Lines 0 → Handles self.old (event_on id what.entry) result self.new }
         ensures gone { what.entry ≡ changes.Gone → result ≢ Err HubFault.Store }
     {
         self.connections
             .change(self.alloc, &mut self.shared, id, what, self.last_tick)
     }
 
-    fn pump(&mut self, id: u64, max: u64) -> Result<(), HubFault>
-        ensures { StepsOrRefuses self.old (pumps id max) (outcome_of result) self.new }
+    fn pump(&mut self, id: u64, max: u64) -> Result<Effect, HubFault>
+        ensures { Handles self.old (pumps id max) result self.new }
     {
         if max > 0 {
             return self.change(id, ConnectionInput::Lines(max as usize));
@@ -111,38 +115,38 @@ impl Hub {
         }
     }
 
-    fn tick(&mut self, ms: u64) -> Result<(), HubFault>
-        ensures handles { StepsOrRefuses self.old (ticks ms) (outcome_of result) self.new }
+    fn tick(&mut self, ms: u64) -> Result<Effect, HubFault>
+        ensures handles { Handles self.old (ticks ms) result self.new }
         ensures store { result ≢ Err HubFault.Store }
     {
         if ms < self.last_tick {
             return Err(HubFault::TickBack);
         }
-        let some_ran_out = self.connections.tick(self.alloc, &self.shared.api, ms);
+        let changes = self.connections.tick(self.alloc, &self.shared.api, ms);
         self.last_tick = ms;
-        if some_ran_out {
-            return Err(HubFault::Memory);
+        match changes {
+            None => Err(HubFault::Memory),
+            Some(changes) => Ok(Effect::Connections(changes)),
         }
-        Ok(())
     }
 
-    fn compact(&mut self, revision: u64) -> Result<(), HubFault>
-        ensures { StepsOrRefuses self.old (compacts revision) (outcome_of result) self.new }
+    fn compact(&mut self, revision: u64) -> Result<Effect, HubFault>
+        ensures { Handles self.old (compacts revision) result self.new }
     {
         match self.shared.compact(revision) {
-            Ok(()) => Ok(()),
+            Ok(()) => Ok(Effect::Nothing),
             Err(CompactFault::Expired) => Err(HubFault::CompactionRefused),
             Err(CompactFault::TooLarge) => Err(HubFault::CompactionRefused),
             Err(CompactFault::Failed(fault)) => Err(HubFault::from(Fault::from(fault))),
         }
     }
 
-    fn retype(&mut self, file: &Value) -> Result<(), HubFault>
-        ensures handles { StepsOrRefuses self.old (retypes (view file.now)) (outcome_of result) self.new }
+    fn retype(&mut self, file: &Value) -> Result<Effect, HubFault>
+        ensures handles { Handles self.old (retypes (view file.now)) result self.new }
         ensures reported { ReportsFile (retypes (view file.now)) result }
     {
         match self.shared.retype(file) {
-            Ok(()) => Ok(()),
+            Ok(()) => Ok(Effect::Nothing),
             Err(fault) => Err(HubFault::from(fault)),
         }
     }
@@ -156,6 +160,22 @@ impl Hub {
     /// other types: no other event fails by it.
     pub fn on(&mut self, event: &Event) -> Result<(), HubFault>
         ensures follows { (s : State) → HubRepresents self.old s → (h : Action) × (t : State) × IsActionOf (event_of event.now) (outcome_of result) h × Follows s h t × HubRepresents self.new t }
+        ensures runs { (r s : State) (before : List Action) → Runs r before s → HubRepresents self.old s → (h : Action) × (t : State) × IsActionOf (event_of event.now) (outcome_of result) h × Runs r (before ++ h ∷ []) t × HubRepresents self.new t }
+        ensures refused { (s : State) → HubRepresents self.old s → ReportsOutcome s (event_of event.now) (outcome_of result) }
+        ensures reported { ReportsFile (event_of event.now) result }
+        ensures unchanged { refusal_in (outcome_of result) ≢ None → self.new ≡ self.old }
+        ensures store { asks_store (event_of event.now) ≡ false → result ≢ Err HubFault.Store }
+    {
+        match self.step(event) {
+            Ok(_) => Ok(()),
+            Err(fault) => Err(fault),
+        }
+    }
+
+    /// Handles an event as `on` does; what it did: how many bytes and lines it wrote on each connection, with which status, and
+    /// which connections ended. At a tick, a watch is also dead where there was no memory to tell of what it writes.
+    pub fn step(&mut self, event: &Event) -> Result<Effect, HubFault>
+        ensures follows { (s : State) → HubRepresents self.old s → (h : Action) × (t : State) × IsActionOf (event_of event.now) (outcome_of result) h × Follows s h t × IfOk result (Does s (event_of event.now) t) × HubRepresents self.new t }
         ensures runs { (r s : State) (before : List Action) → Runs r before s → HubRepresents self.old s → (h : Action) × (t : State) × IsActionOf (event_of event.now) (outcome_of result) h × Runs r (before ++ h ∷ []) t × HubRepresents self.new t }
         ensures refused { (s : State) → HubRepresents self.old s → ReportsOutcome s (event_of event.now) (outcome_of result) }
         ensures reported { ReportsFile (event_of event.now) result }

@@ -11,6 +11,7 @@
 mod answering;
 mod connection;
 mod connections;
+mod effect;
 mod event;
 mod fault;
 mod hub;
@@ -23,6 +24,7 @@ mod ticking;
 mod turns;
 mod watching;
 
+pub use effect::{Change, Effect};
 pub use event::Event;
 pub use fault::HubFault;
 pub use hub::Hub;
@@ -30,4 +32,4 @@ pub use laws::{
     all_is_out, bytes_are_taken, each_changes, each_steps, ends_stay, gone_stays, machines_grow,
     machines_last, others_stay, pieces, runs_are_determined, ticks_are_for_watches, written_stays,
 };
-pub use streams::{LINGER, compact, hand};
+pub use streams::LINGER;

@@ -11,6 +11,7 @@ ghost use Rattle.watchline.specs.Watches.{from_history, moved, pumped, with_book
 ghost use Rattle.httpedge.specs.ConnectionViews.{Pumps, left};
 ghost use Rattle.httpedge.specs.SharedViews.{TurnSpan, IsTurnFrom, SharedRepresents};
 
+use crate::effect::Change;
 use crate::out::Out;
 use requests::chunks;
 use revstore::CompactFault;
@@ -22,14 +23,14 @@ use watchline::{ResumePoint, WatchCursor};
 /// The bytes of a turn are kept up to so many: 1 MiB.
 const MOST_BYTES: usize = 1048576;
 
-/// A turn at a pump: where a watch stood and how many lines it could send, then what it wrote, whether it had ended, and up to
-/// where it had sent.
+/// A turn at a pump: where a watch stood and how many lines it could send, then what it wrote, what that did, and up to where
+/// it had sent.
 #[derive(Drop)]
 pub(crate) struct CachedTurn {
     before: WatchCursor,
     max: usize,
     bytes: Vec<u8>,
-    has_ended: bool,
+    change: Change,
     resume_point: ResumePoint,
 }
 
@@ -81,17 +82,17 @@ impl Shared {
         Shared { api, last: None }
     }
 
-    /// The next lines of a watch are written, at most `max`; whether it has ended. One that stands as the last one did writes
-    /// what that wrote. Out of memory nothing is written.
+    /// The next lines of a watch are written, at most `max`; what that did. One that stands as the last one did writes what
+    /// that wrote. Out of memory nothing is written.
     pub(crate) fn pump(
         &mut self,
         alloc: Global,
         cursor: &mut WatchCursor,
         out: &mut Out,
         max: usize,
-    ) -> Result<bool, Fault>
+    ) -> Result<Change, Fault>
         ensures ok { (types : List ServedShape) (m : History) → SharedRepresents self.old types m
-            → IfOk result (λ has_ended. Pumps (pumped (from_history m) max cursor.old) has_ended cursor.new (left out.old) (left out.new)) }
+            → IfOk result (λ change. Pumps (pumped (from_history m) max cursor.old) change cursor.new (left out.old) (left out.new)) }
         ensures err { OnErr result (left out.new ≡ left out.old) }
         ensures serves { (types : List ServedShape) (m : History) → SharedRepresents self.old types m → SharedRepresents self.new types m }
     {
@@ -99,7 +100,7 @@ impl Shared {
             if last.is_of(cursor, max) {
                 out.add(&last.bytes)?;
                 cursor.move_to(last.resume_point);
-                return Ok(last.has_ended);
+                return Ok(last.change);
             }
         }
         self.pump_anew(alloc, cursor, out, max)
@@ -111,27 +112,32 @@ impl Shared {
         cursor: &mut WatchCursor,
         out: &mut Out,
         max: usize,
-    ) -> Result<bool, Fault>
+    ) -> Result<Change, Fault>
         ensures ok { (types : List ServedShape) (m : History) → SharedRepresents self.old types m
-            → IfOk result (λ has_ended. Pumps (pumped (from_history m) max cursor.old) has_ended cursor.new (left out.old) (left out.new)) }
+            → IfOk result (λ change. Pumps (pumped (from_history m) max cursor.old) change cursor.new (left out.old) (left out.new)) }
         ensures err { OnErr result (left out.new ≡ left out.old) }
         ensures serves { (types : List ServedShape) (m : History) → SharedRepresents self.old types m → SharedRepresents self.new types m }
     {
         let before = cursor.resume_point();
         let pumped = self.api.pump(cursor, max)?;
-        let has_ended = pumped.ended;
-        let bytes = chunks(alloc, &pumped.lines, has_ended)?;
+        let bytes = chunks(alloc, &pumped.lines, pumped.ended)?;
         out.add(&bytes)?;
+        let change = Change {
+            bytes: bytes.len(),
+            lines: pumped.lines.len(),
+            status: None,
+            has_ended: pumped.ended,
+        };
         if let Some((before, resume_point)) = span_to_cache(alloc, &bytes, before, cursor) {
             self.keep(CachedTurn {
                 before,
                 max,
                 bytes,
-                has_ended,
+                change,
                 resume_point,
             });
         }
-        Ok(has_ended)
+        Ok(change)
     }
 
     /// A turn is the last one now.

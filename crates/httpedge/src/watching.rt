@@ -1,11 +1,11 @@
 //! A watch on a connection: what it writes at its turn, and when it ends. What becomes of the connection then stands in
 //! `turns`, what watches share in `shared`.
 
-ghost use Rattle.std.specs.Prelude.{◌≡◌, ◌*◌, List, true, IfOk, OnErr, nat_le, option_map, string_bytes};
+ghost use Rattle.std.specs.Prelude.{◌≡◌, ◌*◌, List, length, true, IfOk, OnErr, nat_le, option_map, string_bytes};
 ghost use Rattle.api_types.specs.TypesFile.{ServedShape};
 ghost use Rattle.history.specs.History.{History};
 ghost use Rattle.verbs.specs.Views.{ApiRepresents};
-ghost use Rattle.watchline.specs.Views.{watch_from};
+ghost use Rattle.answers.specs.Views.{watch_from};
 ghost use Rattle.httpedge.specs.ConnectionViews.{Turns, left, watch_of};
 ghost use Rattle.httpedge.specs.HubViews.{event_of};
 ghost use Rattle.httpedge.specs.NextTurns.{turn_of};
@@ -13,13 +13,15 @@ ghost use Rattle.requests.specs.ReplyBytes.{chunks};
 ghost use Rattle.httpedge.specs.SharedViews.{SharedRepresents};
 ghost use Rattle.httpedge.specs.Watches.{begun_at, is_due, has_timed_out, line_list, pumped, ticked};
 
+use crate::effect::Change;
 use crate::event::Event;
 use crate::out::Out;
 use crate::shared::Shared;
+use answers::WatchFrom;
 use requests::{push_chunk, push_end};
 use std::alloc::{AllocError, Global};
 use verbs::{Api, Fault};
-use watchline::{WatchCursor, WatchFrom};
+use watchline::WatchCursor;
 
 /// A watch: where it stands, the last tick before its opening, and the seconds after which it ends.
 #[derive(Debug, Drop)]
@@ -36,6 +38,16 @@ fn has_passed(seconds: u64, milliseconds: u64) -> bool
     match seconds.checked_mul(1000) {
         Some(needed) => needed <= milliseconds,
         None => false,
+    }
+}
+
+/// How many lines a tick's turn has.
+fn line_count(line: &Option<String>) -> usize
+    ensures { result ≡ length (line_list (option_map string_bytes line.now)) }
+{
+    match line {
+        Some(_) => 1,
+        None => 0,
     }
 }
 
@@ -83,43 +95,55 @@ impl Watch {
         None
     }
 
-    /// Its turn at a pump; whether it has ended. Out of memory, it writes nothing more.
+    /// Its turn at a pump; what that did. Out of memory, it writes nothing more.
     pub(crate) fn pump(
         &mut self,
         alloc: Global,
         shared: &mut Shared,
         out: &mut Out,
         max: usize,
-    ) -> Result<bool, Fault>
+    ) -> Result<Change, Fault>
         ensures ok { (types : List ServedShape) (m : History) → SharedRepresents shared.old types m
-            → IfOk result (λ has_ended. Turns (pumped m max (watch_of self.old)) has_ended (watch_of self.new) (left out.old) (left out.new)) }
+            → IfOk result (λ change. Turns (pumped m max (watch_of self.old)) change (watch_of self.new) (left out.old) (left out.new)) }
         ensures err { OnErr result (left out.new ≡ left out.old) }
         ensures serves { (types : List ServedShape) (m : History) → SharedRepresents shared.old types m → SharedRepresents shared.new types m }
     {
         shared.pump(alloc, &mut self.cursor, out, max)
     }
 
-    /// Its turn at a tick; whether it has ended. Out of memory, it writes nothing more; where nothing is due it needs no
-    /// memory.
+    /// Whether its turn at a tick is due: a bookmark, or its end.
+    pub(crate) fn is_due(&self, ms: u64) -> bool
+        ensures { result ≡ is_due ms (watch_of self.now) }
+    {
+        self.cursor.is_bookmark_due() || self.has_timed_out(ms)
+    }
+
+    /// Its turn at a tick; what that did. Out of memory, it writes nothing more; where nothing is due it needs no memory.
     pub(crate) fn tick(
         &mut self,
         alloc: Global,
         api: &Api,
         out: &mut Out,
         ms: u64,
-    ) -> Result<bool, Fault>
+    ) -> Result<Change, Fault>
         ensures ok { (types : List ServedShape) (m : History) → ApiRepresents api.now types m
-            → IfOk result (λ has_ended. Turns (ticked types ms (watch_of self.old)) has_ended (watch_of self.new) (left out.old) (left out.new)) }
+            → IfOk result (λ change. Turns (ticked types ms (watch_of self.old)) change (watch_of self.new) (left out.old) (left out.new)) }
         ensures err { OnErr result (left out.new ≡ left out.old) }
         ensures due { OnErr result (is_due ms (watch_of self.old) ≡ true) }
     {
         let has_ended = self.has_timed_out(ms);
         let line = api.bookmark(&mut self.cursor)?;
         if line.is_none() && !has_ended {
-            return Ok(false);
+            return Ok(Change::none());
         }
+        let lines = line_count(&line);
         let bytes = tick_bytes(alloc, line, has_ended)?;
         out.add(&bytes)?;
-        Ok(has_ended)
+        Ok(Change {
+            bytes: bytes.len(),
+            lines,
+            status: None,
+            has_ended,
+        })
     }
 }

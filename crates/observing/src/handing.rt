@@ -1,4 +1,4 @@
-//! Hands events to a hub, and tells an observer of them. Without one, `httpedge` does the same.
+//! Hands events to a hub, and tells an observer of them.
 
 ghost use Rattle.std.specs.Prelude.{◌≡◌, true};
 ghost use Rattle.httpedge.specs.HubViews.{IsActionOf, HubRepresents, ReportsOutcome, ReportsFile, event_of, outcome_of};
@@ -21,7 +21,7 @@ pub fn on<O: Observer>(hub: &mut Hub, observer: &mut O, event: &Event) -> Result
     done
 }
 
-/// Hands the hub an event: whether it was done, as `httpedge::hand` says.
+/// Hands the hub an event: whether it was done, as `Hub::on` says of an event.
 pub fn hand<O: Observer>(hub: &mut Hub, observer: &mut O, event: Event) -> bool
     ensures hands { MovesBy (Hands (event_of event)) hub.old hub.new }
     ensures done { result ≡ true → MovesBy (IsDone (event_of event)) hub.old hub.new }

@@ -1,7 +1,9 @@
-use Rattle.std.proofs.Common.{◌≡◌, true, refl, sym, subst, ◌∙◌}
-use Rattle.std.specs.Prelude.{OnOk, OnErr}
-use Rattle.std.proofs.lemmas.Result.{on_ok_weaker}
+use Rattle.std.proofs.Common.{◌≡◌, true, Ok, refl, sym, ap, subst, ◌∙◌}
+use Rattle.std.specs.Prelude.{IfOk, OnErr}
+use Rattle.std.proofs.lemmas.Result.{IfOk-weaker}
+use Rattle.httpedge.specs.declared.effect.Change.{Change}
 use Rattle.httpedge.specs.declared.event.ConnectionInput as changes
+use Rattle.httpedge.specs.declared.event.ConnectionInput.TheVariants as change
 use Rattle.httpedge.specs.ChangeViews.{MakesRepresented, takes_memory_on}
 use Rattle.httpedge.specs.Steps.{with_turn}
 use Rattle.httpedge.specs.Watches.{pumped}
@@ -13,8 +15,9 @@ use Rattle.httpedge.proofs.connection.change.Goals as goal
 pub returns-in-Bytes-clause-ok : goal.returns-in-Bytes-clause-ok
 returns-in-Bytes-clause-ok c = λ types m x represents holds.
     let new = c.receive_on.new in
-    subst (λ (w : changes.ConnectionInput). OnOk c.receive_on.result (MakesRepresented types m c.args.last_tick w x new.connection new.shared)) (sym c.in-Bytes.is)
-    (on_ok_weaker c.receive_on.result (received_makes types m c.args.last_tick x x.phase c.in-Bytes.bytes.now new.connection new.shared c.receive_on.ensures.forgotten) (c.receive_on.ensures.ok types m x represents holds))
+    subst (λ (w : changes.ConnectionInput). IfOk c.receive_on.result (λ did. MakesRepresented types m c.args.last_tick w x new.connection did new.shared)) (sym c.in-Bytes.is)
+    (IfOk-weaker c.receive_on.result _ _ (λ did. received_makes types m c.args.last_tick x x.phase c.in-Bytes.bytes.now new.connection did new.shared c.receive_on.ensures.forgotten)
+    (c.receive_on.ensures.ok types m x represents holds))
 
 pub returns-in-Bytes-clause-could : goal.returns-in-Bytes-clause-could
 returns-in-Bytes-clause-could c = λ types x holds.
@@ -24,8 +27,8 @@ returns-in-Bytes-clause-could c = λ types x holds.
 pub returns-in-Lines-clause-ok : goal.returns-in-Lines-clause-ok
 returns-in-Lines-clause-ok c = λ types m x represents holds.
     let new = c.pump_on.new in
-    subst (λ (w : changes.ConnectionInput). OnOk c.pump_on.result (MakesRepresented types m c.args.last_tick w x new.connection new.shared)) (sym c.in-Lines.is)
-    (on_ok_weaker c.pump_on.result (λ turned. (with_turn (pumped m c.in-Lines.max) x, (refl, c.pump_on.ensures.serves types m represents), turned)) (c.pump_on.ensures.ok types m x represents holds))
+    subst (λ (w : changes.ConnectionInput). IfOk c.pump_on.result (λ did. MakesRepresented types m c.args.last_tick w x new.connection did new.shared)) (sym c.in-Lines.is)
+    (IfOk-weaker c.pump_on.result _ _ (λ did turned. (with_turn (pumped m c.in-Lines.max) x, (refl, turned.0, c.pump_on.ensures.serves types m represents), turned.1)) (c.pump_on.ensures.ok types m x represents holds))
 
 pub returns-in-Lines-clause-could : goal.returns-in-Lines-clause-could
 returns-in-Lines-clause-could c = λ types x holds.
@@ -37,5 +40,9 @@ returns-in-Lines-clause-err c = λ types m represents. on_err c.pump_on.result (
 
 pub returns-in-Gone-clause-ok : goal.returns-in-Gone-clause-ok
 returns-in-Gone-clause-ok c = λ types m x represents holds.
-    subst (λ (w : changes.ConnectionInput). MakesRepresented types m c.args.last_tick w x c.go_from.new.connection c.args.shared.now) (sym c.in-Gone.is)
-    (goes_held types m c.args.last_tick x c.args.connection.now c.go_from.new.connection c.args.shared.now represents holds (c.go_from.ensures types x))
+    subst (λ (w : changes.ConnectionInput). MakesRepresented types m c.args.last_tick w x c.go_from.new.connection c.none.result c.args.shared.now) (sym c.in-Gone.is)
+    (subst (λ (did : Change). MakesRepresented types m c.args.last_tick change.Gone x c.go_from.new.connection did c.args.shared.now) (sym c.none.ensures)
+    (goes_held types m c.args.last_tick x c.args.connection.now c.go_from.new.connection c.args.shared.now represents holds (c.go_from.ensures types x)))
+
+pub returns-in-Gone-clause-gone : goal.returns-in-Gone-clause-gone
+returns-in-Gone-clause-gone c = λ is. ap (λ (x : Change). Ok x) c.none.ensures

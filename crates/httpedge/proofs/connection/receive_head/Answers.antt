@@ -17,6 +17,7 @@ returns-in-None-clause-ok c = λ types m represents.
       subst (λ (ts : List ServedShape). Asks ts whole undecided) (c.types.ensures ∙ represents.serves)
           (subst (λ (bs : List ℕ). Asks (types_view c.types.result.now) bs undecided) (c.bytes.ensures ∙ all) found),
       ap waiting_for (sym all),
+      c.none.ensures,
       represents,
     )
 

@@ -5,4 +5,4 @@ use Rattle.httpedge.proofs.connection.receive_on.Goals as goal
 
 pub returns-clause-ok : goal.returns-clause-ok
 returns-clause-ok c = λ types m x serves holds.
-    c.in_ok-connection.ensures.ok types m x serves.0 (subst (λ (d : conns.Connection). ConnectionRepresents types d x) (sym c.replace-was.ensures.value) holds)
+    c.in_ok-received.ensures.ok types m x serves.0 (subst (λ (d : conns.Connection). ConnectionRepresents types d x) (sym c.replace-was.ensures.value) holds)

@@ -1,5 +1,6 @@
 use Rattle.std.proofs.Common.{false, refl}
 use Rattle.std.specs.Prelude.{⊤}
+use Rattle.httpedge.specs.declared.effect.Effect.{Effect}
 use Rattle.httpedge.specs.Steps.{compacts}
 use Rattle.httpedge.proofs.Representing.{Answers, compacts_well, done_fits, early_refused, failed_fits, failed_handled, fails_out_of_memory, late_refused, same_shared, same_held}
 use Rattle.httpedge.proofs.hub.Hub.compact.Goals as goal
@@ -33,7 +34,7 @@ returns-in-Err-TooLarge c = (
 
 pub returns-in-Err-Failed : goal.returns-in-Err-Failed
 returns-in-Err-Failed c =
-    failed_handled c.args.self.now _ (compacts c.args.revision) _ (fails_out_of_memory ⊤ _ _ c.from-in-Err-Failed.ensures)
+    failed_handled c.args.self.now _ (compacts c.args.revision) _ (fails_out_of_memory Effect _ _ c.from-in-Err-Failed.ensures)
     (λ s is.
     let self = c.args.self.now in
     let represents = is.0.machine in

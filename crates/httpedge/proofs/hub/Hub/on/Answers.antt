@@ -1,167 +1,27 @@
-use Rattle.std.proofs.Common.{sym, ap, subst, ◌∙◌}
-use Rattle.httpedge.specs.HubViews.{StepsOrRefuses, ReportsFile, event_of, outcome_of}
-use Rattle.httpedge.specs.Steps.{Event, comes}
-use Rattle.httpedge.proofs.Ended.{follows_in, sent_in, runs_in, unchanged_in}
-use Rattle.httpedge.proofs.Representing.{bytes_arent, gone_isnt}
+use Rattle.std.proofs.Common.{◌≡◌, ◌∷◌, ◌++◌, [], sym, ap, subst, ◌∙◌}
+use Rattle.std.specs.Prelude.{⊤}
+use Rattle.httpedge.specs.declared.effect.Effect.{Effect}
+use Rattle.httpedge.specs.HubViews.{HubRepresents, IsActionOf, Outcome, event_of, outcome_of}
+use Rattle.httpedge.specs.Runs.{Action, Runs}
+use Rattle.httpedge.specs.Steps.{State}
+use Rattle.httpedge.proofs.Ended.{FollowsIn, same_fault}
 use Rattle.httpedge.proofs.hub.Hub.on.Goals as goal
+use Rattle.httpedge.proofs.hub.Hub.on.Goals.{in-Ok, in-Err}
 
-pub returns-in-Open-clause-follows : goal.returns-in-Open-clause-follows
-returns-in-Open-clause-follows c =
-    follows_in c.args.self.now c.open.new.self (event_of c.args.event.now) (outcome_of c.open.result)
-    (subst (λ (e : Event). StepsOrRefuses c.args.self.now e (outcome_of c.open.result) c.open.new.self) (sym (ap event_of c.in-Open.is)) c.open.ensures.handles)
+-- without what it did it ends the same
+same : (c : goal.Joined-step-2) → outcome_of c.step.result ≡ outcome_of c.match-step.result
+same c =
+    elim c.match-step.branch [
+      | in-Ok w ↦ ap outcome_of w.in-Ok.is ∙ sym (ap outcome_of w.result-is)
+      | in-Err w ↦ ap outcome_of w.in-Err.is ∙ same_fault Effect ⊤ w.in-Err.fault ∙ sym (ap outcome_of w.result-is)
+    ]
 
-pub returns-in-Open-clause-runs : goal.returns-in-Open-clause-runs
-returns-in-Open-clause-runs c =
-    runs_in c.args.self.now c.open.new.self (event_of c.args.event.now) (outcome_of c.open.result)
-    (subst (λ (e : Event). StepsOrRefuses c.args.self.now e (outcome_of c.open.result) c.open.new.self) (sym (ap event_of c.in-Open.is)) c.open.ensures.handles)
+pub returns-clause-follows : goal.returns-clause-follows
+returns-clause-follows c = λ s is.
+    let stepped = c.step.ensures.follows s is in
+    subst (λ (o : Outcome). FollowsIn o s (event_of c.args.event.now) c.step.new.self) (same c) (stepped.0, stepped.1, stepped.2, stepped.3, stepped.5)
 
-pub returns-in-Open-clause-refused : goal.returns-in-Open-clause-refused
-returns-in-Open-clause-refused c =
-    sent_in c.args.self.now c.open.new.self (event_of c.args.event.now) (outcome_of c.open.result)
-    (subst (λ (e : Event). StepsOrRefuses c.args.self.now e (outcome_of c.open.result) c.open.new.self) (sym (ap event_of c.in-Open.is)) c.open.ensures.handles)
-
-pub returns-in-Open-clause-reported : goal.returns-in-Open-clause-reported
-returns-in-Open-clause-reported c = subst (λ (e : Event). ReportsFile e c.open.result) (sym (ap event_of c.in-Open.is)) tt
-
-pub returns-in-Open-clause-unchanged : goal.returns-in-Open-clause-unchanged
-returns-in-Open-clause-unchanged c =
-    unchanged_in c.args.self.now c.open.new.self (event_of c.args.event.now) (outcome_of c.open.result)
-    (subst (λ (e : Event). StepsOrRefuses c.args.self.now e (outcome_of c.open.result) c.open.new.self) (sym (ap event_of c.in-Open.is)) c.open.ensures.handles)
-
-pub returns-in-In-clause-follows : goal.returns-in-In-clause-follows
-returns-in-In-clause-follows c =
-    follows_in c.args.self.now c.change.new.self (event_of c.args.event.now) (outcome_of c.change.result)
-    (subst (λ (e : Event). StepsOrRefuses c.args.self.now e (outcome_of c.change.result) c.change.new.self) (sym (ap event_of c.in-In.is ∙ ap (comes c.in-In.id) (sym c.deref.ensures.value))) (c.change.ensures.handles (bytes_arent c.deref.result)))
-
-pub returns-in-In-clause-runs : goal.returns-in-In-clause-runs
-returns-in-In-clause-runs c =
-    runs_in c.args.self.now c.change.new.self (event_of c.args.event.now) (outcome_of c.change.result)
-    (subst (λ (e : Event). StepsOrRefuses c.args.self.now e (outcome_of c.change.result) c.change.new.self) (sym (ap event_of c.in-In.is ∙ ap (comes c.in-In.id) (sym c.deref.ensures.value))) (c.change.ensures.handles (bytes_arent c.deref.result)))
-
-pub returns-in-In-clause-refused : goal.returns-in-In-clause-refused
-returns-in-In-clause-refused c =
-    sent_in c.args.self.now c.change.new.self (event_of c.args.event.now) (outcome_of c.change.result)
-    (subst (λ (e : Event). StepsOrRefuses c.args.self.now e (outcome_of c.change.result) c.change.new.self) (sym (ap event_of c.in-In.is ∙ ap (comes c.in-In.id) (sym c.deref.ensures.value))) (c.change.ensures.handles (bytes_arent c.deref.result)))
-
-pub returns-in-In-clause-reported : goal.returns-in-In-clause-reported
-returns-in-In-clause-reported c = subst (λ (e : Event). ReportsFile e c.change.result) (sym (ap event_of c.in-In.is)) tt
-
-pub returns-in-In-clause-unchanged : goal.returns-in-In-clause-unchanged
-returns-in-In-clause-unchanged c =
-    unchanged_in c.args.self.now c.change.new.self (event_of c.args.event.now) (outcome_of c.change.result)
-    (subst (λ (e : Event). StepsOrRefuses c.args.self.now e (outcome_of c.change.result) c.change.new.self) (sym (ap event_of c.in-In.is ∙ ap (comes c.in-In.id) (sym c.deref.ensures.value))) (c.change.ensures.handles (bytes_arent c.deref.result)))
-
-pub returns-in-Gone-clause-follows : goal.returns-in-Gone-clause-follows
-returns-in-Gone-clause-follows c =
-    follows_in c.args.self.now c.change-in-Gone.new.self (event_of c.args.event.now) (outcome_of c.change-in-Gone.result)
-    (subst (λ (e : Event). StepsOrRefuses c.args.self.now e (outcome_of c.change-in-Gone.result) c.change-in-Gone.new.self) (sym (ap event_of c.in-Gone.is)) (c.change-in-Gone.ensures.handles gone_isnt))
-
-pub returns-in-Gone-clause-runs : goal.returns-in-Gone-clause-runs
-returns-in-Gone-clause-runs c =
-    runs_in c.args.self.now c.change-in-Gone.new.self (event_of c.args.event.now) (outcome_of c.change-in-Gone.result)
-    (subst (λ (e : Event). StepsOrRefuses c.args.self.now e (outcome_of c.change-in-Gone.result) c.change-in-Gone.new.self) (sym (ap event_of c.in-Gone.is)) (c.change-in-Gone.ensures.handles gone_isnt))
-
-pub returns-in-Gone-clause-refused : goal.returns-in-Gone-clause-refused
-returns-in-Gone-clause-refused c =
-    sent_in c.args.self.now c.change-in-Gone.new.self (event_of c.args.event.now) (outcome_of c.change-in-Gone.result)
-    (subst (λ (e : Event). StepsOrRefuses c.args.self.now e (outcome_of c.change-in-Gone.result) c.change-in-Gone.new.self) (sym (ap event_of c.in-Gone.is)) (c.change-in-Gone.ensures.handles gone_isnt))
-
-pub returns-in-Gone-clause-reported : goal.returns-in-Gone-clause-reported
-returns-in-Gone-clause-reported c = subst (λ (e : Event). ReportsFile e c.change-in-Gone.result) (sym (ap event_of c.in-Gone.is)) tt
-
-pub returns-in-Gone-clause-unchanged : goal.returns-in-Gone-clause-unchanged
-returns-in-Gone-clause-unchanged c =
-    unchanged_in c.args.self.now c.change-in-Gone.new.self (event_of c.args.event.now) (outcome_of c.change-in-Gone.result)
-    (subst (λ (e : Event). StepsOrRefuses c.args.self.now e (outcome_of c.change-in-Gone.result) c.change-in-Gone.new.self) (sym (ap event_of c.in-Gone.is)) (c.change-in-Gone.ensures.handles gone_isnt))
-
-pub returns-in-Pump-clause-follows : goal.returns-in-Pump-clause-follows
-returns-in-Pump-clause-follows c =
-    follows_in c.args.self.now c.pump.new.self (event_of c.args.event.now) (outcome_of c.pump.result)
-    (subst (λ (e : Event). StepsOrRefuses c.args.self.now e (outcome_of c.pump.result) c.pump.new.self) (sym (ap event_of c.in-Pump.is)) c.pump.ensures)
-
-pub returns-in-Pump-clause-runs : goal.returns-in-Pump-clause-runs
-returns-in-Pump-clause-runs c =
-    runs_in c.args.self.now c.pump.new.self (event_of c.args.event.now) (outcome_of c.pump.result)
-    (subst (λ (e : Event). StepsOrRefuses c.args.self.now e (outcome_of c.pump.result) c.pump.new.self) (sym (ap event_of c.in-Pump.is)) c.pump.ensures)
-
-pub returns-in-Pump-clause-refused : goal.returns-in-Pump-clause-refused
-returns-in-Pump-clause-refused c =
-    sent_in c.args.self.now c.pump.new.self (event_of c.args.event.now) (outcome_of c.pump.result)
-    (subst (λ (e : Event). StepsOrRefuses c.args.self.now e (outcome_of c.pump.result) c.pump.new.self) (sym (ap event_of c.in-Pump.is)) c.pump.ensures)
-
-pub returns-in-Pump-clause-reported : goal.returns-in-Pump-clause-reported
-returns-in-Pump-clause-reported c = subst (λ (e : Event). ReportsFile e c.pump.result) (sym (ap event_of c.in-Pump.is)) tt
-
-pub returns-in-Pump-clause-unchanged : goal.returns-in-Pump-clause-unchanged
-returns-in-Pump-clause-unchanged c =
-    unchanged_in c.args.self.now c.pump.new.self (event_of c.args.event.now) (outcome_of c.pump.result)
-    (subst (λ (e : Event). StepsOrRefuses c.args.self.now e (outcome_of c.pump.result) c.pump.new.self) (sym (ap event_of c.in-Pump.is)) c.pump.ensures)
-
-pub returns-in-Tick-clause-follows : goal.returns-in-Tick-clause-follows
-returns-in-Tick-clause-follows c =
-    follows_in c.args.self.now c.tick.new.self (event_of c.args.event.now) (outcome_of c.tick.result)
-    (subst (λ (e : Event). StepsOrRefuses c.args.self.now e (outcome_of c.tick.result) c.tick.new.self) (sym (ap event_of c.in-Tick.is)) c.tick.ensures.handles)
-
-pub returns-in-Tick-clause-runs : goal.returns-in-Tick-clause-runs
-returns-in-Tick-clause-runs c =
-    runs_in c.args.self.now c.tick.new.self (event_of c.args.event.now) (outcome_of c.tick.result)
-    (subst (λ (e : Event). StepsOrRefuses c.args.self.now e (outcome_of c.tick.result) c.tick.new.self) (sym (ap event_of c.in-Tick.is)) c.tick.ensures.handles)
-
-pub returns-in-Tick-clause-refused : goal.returns-in-Tick-clause-refused
-returns-in-Tick-clause-refused c =
-    sent_in c.args.self.now c.tick.new.self (event_of c.args.event.now) (outcome_of c.tick.result)
-    (subst (λ (e : Event). StepsOrRefuses c.args.self.now e (outcome_of c.tick.result) c.tick.new.self) (sym (ap event_of c.in-Tick.is)) c.tick.ensures.handles)
-
-pub returns-in-Tick-clause-reported : goal.returns-in-Tick-clause-reported
-returns-in-Tick-clause-reported c = subst (λ (e : Event). ReportsFile e c.tick.result) (sym (ap event_of c.in-Tick.is)) tt
-
-pub returns-in-Tick-clause-unchanged : goal.returns-in-Tick-clause-unchanged
-returns-in-Tick-clause-unchanged c =
-    unchanged_in c.args.self.now c.tick.new.self (event_of c.args.event.now) (outcome_of c.tick.result)
-    (subst (λ (e : Event). StepsOrRefuses c.args.self.now e (outcome_of c.tick.result) c.tick.new.self) (sym (ap event_of c.in-Tick.is)) c.tick.ensures.handles)
-
-pub returns-in-Compact-clause-follows : goal.returns-in-Compact-clause-follows
-returns-in-Compact-clause-follows c =
-    follows_in c.args.self.now c.compact.new.self (event_of c.args.event.now) (outcome_of c.compact.result)
-    (subst (λ (e : Event). StepsOrRefuses c.args.self.now e (outcome_of c.compact.result) c.compact.new.self) (sym (ap event_of c.in-Compact.is)) c.compact.ensures)
-
-pub returns-in-Compact-clause-runs : goal.returns-in-Compact-clause-runs
-returns-in-Compact-clause-runs c =
-    runs_in c.args.self.now c.compact.new.self (event_of c.args.event.now) (outcome_of c.compact.result)
-    (subst (λ (e : Event). StepsOrRefuses c.args.self.now e (outcome_of c.compact.result) c.compact.new.self) (sym (ap event_of c.in-Compact.is)) c.compact.ensures)
-
-pub returns-in-Compact-clause-refused : goal.returns-in-Compact-clause-refused
-returns-in-Compact-clause-refused c =
-    sent_in c.args.self.now c.compact.new.self (event_of c.args.event.now) (outcome_of c.compact.result)
-    (subst (λ (e : Event). StepsOrRefuses c.args.self.now e (outcome_of c.compact.result) c.compact.new.self) (sym (ap event_of c.in-Compact.is)) c.compact.ensures)
-
-pub returns-in-Compact-clause-reported : goal.returns-in-Compact-clause-reported
-returns-in-Compact-clause-reported c = subst (λ (e : Event). ReportsFile e c.compact.result) (sym (ap event_of c.in-Compact.is)) tt
-
-pub returns-in-Compact-clause-unchanged : goal.returns-in-Compact-clause-unchanged
-returns-in-Compact-clause-unchanged c =
-    unchanged_in c.args.self.now c.compact.new.self (event_of c.args.event.now) (outcome_of c.compact.result)
-    (subst (λ (e : Event). StepsOrRefuses c.args.self.now e (outcome_of c.compact.result) c.compact.new.self) (sym (ap event_of c.in-Compact.is)) c.compact.ensures)
-
-pub returns-in-Retype-clause-follows : goal.returns-in-Retype-clause-follows
-returns-in-Retype-clause-follows c =
-    follows_in c.args.self.now c.retype.new.self (event_of c.args.event.now) (outcome_of c.retype.result)
-    (subst (λ (e : Event). StepsOrRefuses c.args.self.now e (outcome_of c.retype.result) c.retype.new.self) (sym (ap event_of c.in-Retype.is)) c.retype.ensures.handles)
-
-pub returns-in-Retype-clause-runs : goal.returns-in-Retype-clause-runs
-returns-in-Retype-clause-runs c =
-    runs_in c.args.self.now c.retype.new.self (event_of c.args.event.now) (outcome_of c.retype.result)
-    (subst (λ (e : Event). StepsOrRefuses c.args.self.now e (outcome_of c.retype.result) c.retype.new.self) (sym (ap event_of c.in-Retype.is)) c.retype.ensures.handles)
-
-pub returns-in-Retype-clause-refused : goal.returns-in-Retype-clause-refused
-returns-in-Retype-clause-refused c =
-    sent_in c.args.self.now c.retype.new.self (event_of c.args.event.now) (outcome_of c.retype.result)
-    (subst (λ (e : Event). StepsOrRefuses c.args.self.now e (outcome_of c.retype.result) c.retype.new.self) (sym (ap event_of c.in-Retype.is)) c.retype.ensures.handles)
-
-pub returns-in-Retype-clause-reported : goal.returns-in-Retype-clause-reported
-returns-in-Retype-clause-reported c = subst (λ (e : Event). ReportsFile e c.retype.result) (sym (ap event_of c.in-Retype.is)) c.retype.ensures.reported
-
-pub returns-in-Retype-clause-unchanged : goal.returns-in-Retype-clause-unchanged
-returns-in-Retype-clause-unchanged c =
-    unchanged_in c.args.self.now c.retype.new.self (event_of c.args.event.now) (outcome_of c.retype.result)
-    (subst (λ (e : Event). StepsOrRefuses c.args.self.now e (outcome_of c.retype.result) c.retype.new.self) (sym (ap event_of c.in-Retype.is)) c.retype.ensures.handles)
+pub returns-clause-runs : goal.returns-clause-runs
+returns-clause-runs c = λ r s before ran is.
+    subst (λ (o : Outcome). (h : Action) × (t : State) × IsActionOf (event_of c.args.event.now) o h × Runs r (before ++ h ∷ []) t × HubRepresents c.step.new.self t) (same c)
+    (c.step.ensures.runs r s before ran is)

@@ -1,19 +1,20 @@
-use Rattle.std.proofs.Common.{sym, ◌∙◌}
-use Rattle.std.proofs.lemmas.Result.{on_ok_weaker}
-use Rattle.httpedge.proofs.Making.{on_err_then}
+use Rattle.std.proofs.Common.{sym, subst, ◌∙◌}
+use Rattle.httpedge.specs.Effects.{Does}
+use Rattle.httpedge.specs.Steps.{opens}
 use Rattle.httpedge.proofs.Representing.{opens_fresh, opens_well, same_in}
+use Rattle.httpedge.proofs.Results.{on_err}
 use Rattle.httpedge.proofs.hub.Hub.open_above.Goals as goal
 
 pub returns-clause-ok : goal.returns-clause-ok
 returns-clause-ok c = λ s is above.
     let self = c.args.self.now in
-    let holds = c.in_ok-connection.ensures s.types s.connections (c.open_count.ensures self.shared s is.0) in
-    on_ok_weaker c.open.result (λ opened.
-    let done = opens_well s c.args.id self.shared self.connections c.open.new.self c.in_ok-connection.connection is.0 above holds opened in
-    (done.0, done.1, (done.2, is.1 ∙ sym done.3)))
-    (c.open.ensures.ok (opens_fresh s c.args.id self.shared self.connections is.0 above))
+    let count = c.open_count.ensures self.shared s is.0 in
+    let opened = c.in_ok-opened.ensures in
+    let done = opens_well s c.args.id self.shared self.connections c.open.new.self c.in_ok-opened.opened.0 c.in_ok-opened.opened.1 is.0 above (opened.represents s.types s.connections count) (opened.did s.connections count)
+    (c.in_ok-open.ensures.ok (opens_fresh s c.args.id self.shared self.connections is.0 above)) in
+    (done.0, subst (Does s (opens c.args.id) done.0) (sym c.of.ensures) done.1, (done.2, is.1 ∙ sym done.3))
 
-pub returns-clause-err : goal.returns-clause-err
-returns-clause-err c = λ s is above.
+pub returns-in_err-open-clause-err : goal.returns-in_err-open-clause-err
+returns-in_err-open-clause-err c = λ s is above.
     let self = c.args.self.now in
-    on_err_then c.open.result (λ same. (same_in s self.shared self.connections c.open.new.self is.0 same, is.1)) (c.open.ensures.err (opens_fresh s c.args.id self.shared self.connections is.0 above))
+    on_err c.from_residual-in_err-open.result (same_in s self.shared self.connections c.open.new.self is.0 (c.in_err-open.ensures.err (opens_fresh s c.args.id self.shared self.connections is.0 above)), is.1)

@@ -1,4 +1,4 @@
-use Rattle.std.specs.Prelude.{⊤}
+use Rattle.httpedge.specs.declared.effect.Effect.{Effect}
 use Rattle.serde_json.specs.View as value
 use Rattle.httpedge.proofs.Representing.{same_shared}
 use Rattle.httpedge.proofs.Retyped.{file_reported, retypes_not, retypes_well}
@@ -9,7 +9,7 @@ returns-in-Ok-clause-handles c = λ s is. retypes_well s _ c.args.self.now c.ret
 
 pub returns-in-Err-clause-handles : goal.returns-in-Err-clause-handles
 returns-in-Err-clause-handles c =
-    retypes_not ⊤ c.args.self.now _ _ c.in-Err.fault c.from.result c.from.ensures (same_shared c.args.self.now c.retype.new.self c.in-Err.ensures.unchanged)
+    retypes_not Effect c.args.self.now _ _ c.in-Err.fault c.from.result c.from.ensures (same_shared c.args.self.now c.retype.new.self c.in-Err.ensures.unchanged)
     (λ s is. c.in-Err.ensures.refused s.types s.machine is.0.machine)
 
 pub returns-in-Err-clause-reported : goal.returns-in-Err-clause-reported

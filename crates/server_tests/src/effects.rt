@@ -1,0 +1,96 @@
+//! What events did, as the hub tells it: how many bytes, how many lines and which status on which connection, and which of them
+//! ended. The bytes themselves are rows of `tests/hub` at the top.
+
+use crate::given::WIDGET_TYPES;
+use api_types::Types;
+use httpedge::{Effect, Event, Hub};
+use serde_json::Value;
+use std::alloc::Global;
+use std::mem;
+use std::test::Fail;
+use verbs::Api;
+
+/// The head of a watch has 98 bytes, the one of the reply that creates an object 96, and its body 117.
+const WATCH: &str =
+    "GET /apis/demo.example/v1/widgets?watch=true&timeoutSeconds=1 HTTP/1.1\r\nHost: x\r\n\r\n";
+
+const CREATION: &str =
+    "POST /apis/demo.example/v1/namespaces/default/widgets HTTP/1.1\r\nHost: x\r\nContent-Type: application/json\r\nContent-Length: 73\r\n\r\n{\"apiVersion\":\"demo.example/v1\",\"kind\":\"Widget\",\"metadata\":{\"name\":\"w1\"}}";
+
+/// Of each change the id, the bytes, the lines and the status, and whether the connection ended.
+fn in_words(alloc: Global, effect: &Effect) -> Result<String, Fail> {
+    let mut text = String::new(alloc);
+    for (id, change) in effect.changes() {
+        let status = change.status.unwrap_or(0);
+        let end = if change.has_ended { " ended" } else { "" };
+        let one = format!(in alloc; "{}: {} {} {status}{end};", *id, change.bytes, change.lines)?;
+        text.push_str(one.as_str())?;
+    }
+    Ok(text)
+}
+
+fn expect(alloc: Global, hub: &mut Hub, event: &Event, wanted: &str) -> Result<(), Fail> {
+    let text = match hub.step(event) {
+        Ok(effect) => in_words(alloc, &effect)?,
+        Err(fault) => format!(in alloc; "{fault}")?,
+    };
+    if text.as_str() == wanted {
+        return Ok(());
+    }
+    Err(
+        format!(in alloc; "{text} in place of {wanted}")?
+            .as_str()
+            .into(),
+    )
+}
+
+fn bytes_on(alloc: Global, id: u64, text: &str) -> Result<Event, Fail> {
+    Ok(Event::In(id, Vec::from_slice(alloc, text.as_bytes())?))
+}
+
+fn expect_effects(alloc: Global, hub: &mut Hub) -> Result<(), Fail> {
+    for id in 1..4 {
+        expect(alloc, hub, &Event::Open(id), "")?;
+    }
+    expect(alloc, hub, &bytes_on(alloc, 1, WATCH)?, "1: 98 0 200;")?;
+    expect(alloc, hub, &bytes_on(alloc, 2, WATCH)?, "2: 98 0 200;")?;
+    expect(alloc, hub, &bytes_on(alloc, 3, "POST /apis")?, "")?;
+    expect(alloc, hub, &Event::Gone(3), "")?;
+    expect(alloc, hub, &Event::Open(4), "")?;
+    expect(
+        alloc,
+        hub,
+        &bytes_on(alloc, 4, CREATION)?,
+        "4: 213 0 201 ended;",
+    )?;
+    // a chunk of a line of 144 bytes, its length in hexadecimal and two line ends
+    expect(alloc, hub, &Event::Pump(1, 10), "1: 150 1 0;")?;
+    expect(alloc, hub, &Event::Pump(1, 10), "")?;
+    expect(alloc, hub, &Event::Pump(4, 10), "")?;
+    expect(
+        alloc,
+        hub,
+        &Event::Pump(9, 10),
+        "there is no connection of this id",
+    )?;
+    expect(alloc, hub, &Event::Compact(2), "")?;
+    expect(alloc, hub, &Event::Tick(999), "")?;
+    // the last chunk, which ends a watch
+    expect(
+        alloc,
+        hub,
+        &Event::Tick(1000),
+        "1: 5 0 0 ended;2: 5 0 0 ended;",
+    )?;
+    expect(alloc, hub, &Event::Tick(2000), "")
+}
+
+#[test]
+fn effects_of_events(rt: HostRuntime) -> Result<(), Fail> {
+    let alloc = rt.alloc();
+    let types = Types::read(alloc, &Value::from_str(alloc, WIDGET_TYPES)?)?;
+    let mut hub = Hub::new(alloc, Api::new(alloc, types)?);
+    let told = expect_effects(alloc, &mut hub);
+    mem::forget(hub);
+    told
+}
