@@ -1,0 +1,4 @@
+pub mod Borders
+pub mod LastDigits
+pub mod Rounds
+pub mod UidDigits

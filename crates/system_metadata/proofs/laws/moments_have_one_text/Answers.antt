@@ -1,0 +1,8 @@
+use Rattle.std.proofs.Common.{◌++◌, codes, ap, sym, ◌∙◌}
+use Rattle.jiff.specs.Words.{iso_datetime_text}
+use Rattle.jiff.proofs.Family.{same_datetime}
+use Rattle.system_metadata.proofs.laws.moments_have_one_text.Goals as goal
+
+pub returns : goal.returns
+returns c = λ second a b x y.
+    x.2 ∙ ap (λ shown. iso_datetime_text shown ++ codes "Z") (same_datetime x.0 y.0 (x.1 ∙ sym y.1)) ∙ sym y.2

@@ -1,0 +1,18 @@
+use Rattle.std.proofs.Common.{◌≡◌, ◌∙◌, ℕ, ◌*◌, ◌≤◌, ℤ, pos, ◌+ℤ◌, ◌*ℤ◌, ap, arith, to_z}
+use Rattle.std.proofs.lemmas.Int.{to_z_pos}
+use Rattle.std.proofs.lemmas.Result.{IfOk-weaker}
+use Rattle.std.specs.Int.{w64}
+use Rattle.jiff.proofs.SpanFacts.{signed_arith}
+use Rattle.jiff.specs.Words.{nanos_of_seconds}
+use Rattle.system_metadata.proofs.moments.moment.Goals as goal
+
+shown_at : (second : ℕ) (shown nanos : ℤ) → second ≤ 253402207200 → nanos ≡ to_z w64 second *ℤ pos 1_000_000_000 → shown ≡ nanos +ℤ nanos_of_seconds (pos 0) → shown ≡ pos (second * 1_000_000_000)
+shown_at second shown nanos fits at is =
+    let whole : nanos ≡ pos second *ℤ pos 1_000_000_000 = at ∙ ap (λ z. z *ℤ pos 1_000_000_000) (to_z_pos w64 second (omega (arith, fits))) in
+    omega (arith, signed_arith, whole, is)
+
+pub returns : goal.returns
+returns c =
+    let second = c.second_at-second.ensures in
+    let at = shown_at c.second_at-second.result _ _ (omega (arith, second)) c.in-Ok.ensures.value c.to_datetime-shown.ensures in
+    IfOk-weaker c.format.result _ _ (λ text e. (c.to_datetime-shown.result, at ∙ ap (λ n. pos (n * 1_000_000_000)) second, e)) c.format.ensures.ok
