@@ -1,0 +1,5 @@
+pub mod Children
+pub mod MergeSteps
+pub mod Putting
+pub mod Tokens
+pub mod Unnamed
