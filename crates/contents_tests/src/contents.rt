@@ -1,24 +1,29 @@
-//! Questions about contents and their texts under a schema; the examples stand in `readings`, `object_texts`, `fields_v1`
-//! and `key_names`. Those about texts in order are answered in `borrowed`, those about two contents in `two_contents`.
+//! Questions about contents and their texts under a schema; the examples stand in `readings`, `object_texts`, `fields_v1`,
+//! `types_files` and `key_names`. Those about texts in order are answered in `borrowed`, those about two contents in
+//! `two_contents`.
 //!
 //! | question | answer |
 //! |---|---|
 //! | `lawful` | whether the schema is |
 //! | `place ELEMENT ..` | the place of the path |
 //! | `read TEXT` | whether a content is read, or why none is |
-//! | `paths TEXT` | the paths of the content |
 //! | `print TEXT` | what is printed of the content |
 //! | `set VALUE` | the paths that the FieldsV1 value says, or why it says none |
 //! | `fields VALUE` | what is written of these paths |
 //! | `object TEXT` | `same` where the text of the object `w1` is read and printed again |
 
 use crate::borrowed::answer_borrowed;
-use crate::given::{first_schema, path, printed, shown_paths, tree, types_of};
+use crate::fields_v1::FIELDS;
+use crate::given::{
+    READY_TYPES, WIDGET_TYPES, first_schema, path, printed, shown_paths, tree, types_of,
+};
+use crate::object_texts::{BY_STATUS, OBJECTS};
+use crate::readings::{KINDS, READINGS};
 use crate::two_contents::answer_of_two;
+use crate::types_files::PLACES;
 use api_types::{Types, is_lawful};
 use fieldset::FieldSet;
 use json_texts::TextWriter;
-use objects::paths_in;
 use ownership::{Identity, ObjectFault, Owned};
 use schema::Schema;
 use serde_json::Value;
@@ -40,7 +45,7 @@ impl Answers for Contents {
 }
 
 /// Plays examples under the first schema of a types file.
-pub fn play_under(alloc: Global, types: &str, examples: &str) -> Result<(), Fail> {
+fn play_under(alloc: Global, types: &str, examples: &str) -> Result<(), Fail> {
     let mut contents = Contents {
         types: types_of(alloc, types)?,
     };
@@ -54,7 +59,6 @@ pub fn answer_under(alloc: Global, schema: &Schema, question: &str) -> Result<St
         "lawful" => in_words(alloc, is_lawful(schema)),
         "place" => located(alloc, schema, text),
         "read" => read(alloc, schema, text),
-        "paths" => paths(alloc, schema, text),
         "print" => print(alloc, schema, text),
         "set" | "fields" => fields_v1(alloc, schema, call, text),
         "object" => again(alloc, schema, text),
@@ -73,10 +77,6 @@ fn read(alloc: Global, schema: &Schema, text: &str) -> Result<String, Fail> {
         Err(ReadFault::Shape(cause, path)) => Ok(format!(in alloc; "{path}: {cause}")?),
         Err(ReadFault::Memory) => Err("no memory".into()),
     }
-}
-
-fn paths(alloc: Global, schema: &Schema, text: &str) -> Result<String, Fail> {
-    shown_paths(alloc, &paths_in(&tree(alloc, schema, text)?, alloc)?)
 }
 
 fn print(alloc: Global, schema: &Schema, text: &str) -> Result<String, Fail> {
@@ -136,4 +136,18 @@ fn again(alloc: Global, schema: &Schema, text: &str) -> Result<String, Fail> {
         Err(ObjectFault::NotCanonical) => Ok(String::from_str(alloc, "refused")?),
         Err(ObjectFault::Memory) => Err("no memory".into()),
     }
+}
+
+#[test]
+fn examples(rt: HostRuntime) -> Result<(), Fail> {
+    for (types, examples) in [
+        (WIDGET_TYPES, FIELDS),
+        (WIDGET_TYPES, PLACES),
+        (WIDGET_TYPES, OBJECTS),
+        (READY_TYPES, BY_STATUS),
+        (KINDS, READINGS),
+    ] {
+        play_under(rt.alloc(), types, examples)?;
+    }
+    Ok(())
 }

@@ -6,10 +6,10 @@
 //! | `show ELEMENT / ELEMENT ..` | how conflicts show the path |
 //! | `read TEXT` | the text of the element that is read, or why none is |
 //! | `keys NAME ..` | the key fields of these names, the first a number, or why they are none |
-//! | `order A B` | how two paths compare, each `spec` or a number below it, and whether they are equal |
-//! | `last A` | the text of such a path's last element |
+//! | `order ELEMENT .. / ELEMENT ..` | how two paths compare, and whether they are equal |
+//! | `last ELEMENT ..` | the text of the path's last element |
 
-use crate::given::push;
+use crate::given::{path, push};
 use fieldpath::{Elem, Keys, Path, Scalar};
 use std::alloc::{AllocError, Global};
 use std::test::Fail;
@@ -75,33 +75,15 @@ fn keys_of(alloc: Global, names: &str) -> Result<String, Fail> {
     }
 }
 
-fn push_elem(alloc: Global, path: &mut Path, elem: &Elem) -> Result<(), Fail> {
-    push(alloc, path, elem.text(alloc)?.as_str())
-}
-
-fn push_spec(alloc: Global, path: &mut Path) -> Result<(), Fail> {
-    push_elem(alloc, path, &Elem::Field(String::from_str(alloc, "spec")?))
-}
-
-/// A copy of the path of `spec`, or of a number below it.
-fn spec_path(alloc: Global, word: &str) -> Result<Path, Fail> {
-    let mut path = Path::new(alloc);
-    push_spec(alloc, &mut path)?;
-    if let Ok(number) = word.parse::<i64>() {
-        push_elem(alloc, &mut path, &Elem::Value(Scalar::Int(number)))?;
-    }
-    Ok(path.try_copy(alloc)?)
-}
-
 fn compared(alloc: Global, words: &str) -> Result<String, Fail> {
-    let (one, other) = first_word(words);
-    let one = spec_path(alloc, one)?;
-    let other = spec_path(alloc, other)?;
+    let (one, other) = words.split_once(" / ").ok_or("no other path")?;
+    let one = path(alloc, one)?;
+    let other = path(alloc, other)?.try_copy(alloc)?;
     in_words(alloc, (one.cmp(&other), one == other))
 }
 
-fn last_of(alloc: Global, word: &str) -> Result<String, Fail> {
-    let path = spec_path(alloc, word)?;
+fn last_of(alloc: Global, elements: &str) -> Result<String, Fail> {
+    let path = path(alloc, elements)?;
     let last = path.texts().last().ok_or("no element")?;
     Ok(String::from_str(alloc, last.as_str())?)
 }
@@ -143,12 +125,12 @@ keys a a => NotAscending
 keys => NotAscending
 
 a_front_comes_before_what_extends_it
-order spec 10 => (Less, false)
-order 10 9 => (Less, false)
-order 10 spec => (Greater, false)
-order 10 10 => (Equal, true)
-last spec => f:spec
-last 10 => v:10"#;
+order f:spec / f:spec v:10 => (Less, false)
+order f:spec v:10 / f:spec v:9 => (Less, false)
+order f:spec v:10 / f:spec => (Greater, false)
+order f:spec v:10 / f:spec v:10 => (Equal, true)
+last f:spec => f:spec
+last f:spec v:10 => v:10"#;
 
 #[test]
 fn examples(rt: HostRuntime) -> Result<(), Fail> {

@@ -1,10 +1,6 @@
 //! FieldsV1 values: what they are read as, and what is written of that again; `contents` says what the questions are.
 
-use crate::contents::play_under;
-use crate::given::WIDGET_TYPES;
-use std::test::Fail;
-
-const EXAMPLES: &str = r#"fields_v1_values_are_read
+pub const FIELDS: &str = r#"fields_v1_values_are_read
 set {"f:spec":{"f:tags":{"v:\"b\"":{},"v:\"a\"":{}}}} => paths .spec.tags[="a"] .spec.tags[="b"]
 set {} => paths
 set {"f:metadata":{"f:labels":{"f:tier":{}}},"f:spec":{"f:args":{}}} => paths .metadata.labels.tier .spec.args
@@ -33,9 +29,9 @@ fields {} => {}
 fields {"f:spec":{"f:image":{},"f:replicas":{}}} => {"f:spec":{"f:image":{},"f:replicas":{}}}
 fields {"f:spec":{"f:ports":{"k:{\"name\":\"web\"}":{".":{},"f:name":{},"f:port":{}}}}} => {"f:spec":{"f:ports":{"k:{\"name\":\"web\"}":{".":{},"f:name":{},"f:port":{}}}}}
 fields {"f:spec":{"f:ports":{"k:{\"name\":\"web\"}":{"f:note":{}}}}} => {"f:spec":{"f:ports":{"k:{\"name\":\"web\"}":{"f:note":{}}}}}
-fields {"f:spec":{"f:tags":{"v:\"a\"":{},"v:\"b\"":{}}}} => {"f:spec":{"f:tags":{"v:\"a\"":{},"v:\"b\"":{}}}}"#;
+fields {"f:spec":{"f:tags":{"v:\"a\"":{},"v:\"b\"":{}}}} => {"f:spec":{"f:tags":{"v:\"a\"":{},"v:\"b\"":{}}}}
 
-#[test]
-fn examples(rt: HostRuntime) -> Result<(), Fail> {
-    play_under(rt.alloc(), WIDGET_TYPES, EXAMPLES)
-}
+fields_v1_of_paths
+set {"f:spec":{"f:image":{},"f:tags":{"v:\"a\"":{}}}} => paths .spec.image .spec.tags[="a"]
+fields {"f:spec":{"f:image":{},"f:tags":{"v:\"a\"":{}}}} => {"f:spec":{"f:image":{},"f:tags":{"v:\"a\"":{}}}}
+set {"f:spec":{"f:ports":{"k:{\"name\":\"web\"}":{".":{},"f:name":{},"f:port":{}}}}} => paths .spec.ports[name="web"] .spec.ports[name="web"].port"#;

@@ -6,7 +6,7 @@ use fieldpath::{ElemText, Path};
 use fieldset::FieldSet;
 use schema::Schema;
 use serde_json::Value;
-use std::alloc::{AllocError, Global};
+use std::alloc::Global;
 use std::test::Fail;
 use typed::Tree;
 
@@ -61,19 +61,13 @@ pub fn push(alloc: Global, path: &mut Path, element: &str) -> Result<(), Fail> {
     Ok(path.push(alloc, &text)?)
 }
 
-/// Puts the paths as conflicts show them, each behind a blank.
-pub fn push_paths(alloc: Global, text: &mut String, set: &FieldSet) -> Result<(), AllocError> {
+/// The paths as conflicts show them, behind a word.
+pub fn shown_paths(alloc: Global, set: &FieldSet) -> Result<String, Fail> {
+    let mut text = String::from_str(alloc, "paths")?;
     for path in set.paths(alloc)? {
         text.push_str(" ")?;
         text.push_str(path.shown(alloc)?.as_str())?;
     }
-    Ok(())
-}
-
-/// The paths as conflicts show them, behind a word.
-pub fn shown_paths(alloc: Global, set: &FieldSet) -> Result<String, Fail> {
-    let mut text = String::from_str(alloc, "paths")?;
-    push_paths(alloc, &mut text, set)?;
     Ok(text)
 }
 

@@ -1,16 +1,14 @@
-//! Tests of the contents of objects and of their owners, by public calls alone. The requests that change them are
-//! tested in `server_tests`.
+//! Tests of what only linked calls show of the contents of objects and of their owners: paths and sets of them, schemas, texts
+//! that are read back, and writes that are refused memory. What the programs answer is in `tests/` at the top.
 //!
 //! Each call stands in a helper with no clause, so that a test carries few facts. An example is a name and its rows of text
-//! (`test_rows`), and one test plays the examples of a file: rows cost the prover nothing, and each function some seconds.
+//! (`test_rows`): rows cost the prover nothing, and each function some seconds.
 #![tactic(auto)]
 
 #[cfg(test)]
 mod borrowed;
 #[cfg(test)]
 mod contents;
-#[cfg(test)]
-mod discovery_documents;
 #[cfg(test)]
 mod elements;
 #[cfg(test)]

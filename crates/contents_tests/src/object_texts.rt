@@ -2,11 +2,7 @@
 //!
 //! Behind an example's name stands what its texts have, in turn.
 
-use crate::contents::play_under;
-use crate::given::{READY_TYPES, WIDGET_TYPES};
-use std::test::Fail;
-
-const EXAMPLES: &str =
+pub const OBJECTS: &str =
     r#"objects_are_read_back: no content; `first_apply`; `item_kept_for_other_owner` at 2, 3 and 4; two managers of one name and labels; `force_takes_over`; `shared_owner_keeps` at 4 and 5; `set_items` at 2, 3 and 4; `atomic_list`; `all_conflicts_listed`; `update_and_version`; `watch_leaves_selector` at 2; no owners; a manager by the main resource and by `status`
 object {"apiVersion":"demo.example/v1","kind":"Widget","metadata":{"name":"w1","namespace":"default","resourceVersion":"2"}} => same
 object {"apiVersion":"demo.example/v1","kind":"Widget","metadata":{"managedFields":[{"apiVersion":"demo.example/v1","fieldsType":"FieldsV1","fieldsV1":{"f:spec":{"f:image":{},"f:replicas":{}}},"manager":"alice","operation":"Apply"}],"name":"w1","namespace":"default","resourceVersion":"2"},"spec":{"image":"a","replicas":3}} => same
@@ -83,18 +79,8 @@ object {"apiVersion":"demo.example/v1","kind":"Widget","metadata":{"name":"w1","
 object {"apiVersion":"demo.example/v1","kind":"Widget","metadata":{"managedFields":["alice"],"name":"w1","namespace":"default","resourceVersion":"2"},"spec":{"replicas":3}} => refused
 object {"apiVersion":"demo.example/v1","kind":"Widget","metadata":{"managedFields":[{"apiVersion":"demo.example/v1","fieldsType":"FieldsV1","manager":"alice","operation":"Apply"}],"name":"w1","namespace":"default","resourceVersion":"2"},"spec":{"replicas":3}} => refused"#;
 
-#[test]
-fn examples(rt: HostRuntime) -> Result<(), Fail> {
-    play_under(rt.alloc(), WIDGET_TYPES, EXAMPLES)
-}
-
-const BY_STATUS: &str =
+pub const BY_STATUS: &str =
     r#"written_by_status: an entry by `status`; the member in front of `operation`; the same name by the main resource behind it
 object {"apiVersion":"demo.example/v1","kind":"Widget","metadata":{"managedFields":[{"apiVersion":"demo.example/v1","fieldsType":"FieldsV1","fieldsV1":{"f:spec":{"f:replicas":{}}},"manager":"alice","operation":"Apply"},{"apiVersion":"demo.example/v1","fieldsType":"FieldsV1","fieldsV1":{"f:status":{"f:ready":{}}},"manager":"ctl","operation":"Apply","subresource":"status"}],"name":"w1","namespace":"default","resourceVersion":"3"},"spec":{"replicas":3},"status":{"ready":2}} => same
 object {"apiVersion":"demo.example/v1","kind":"Widget","metadata":{"managedFields":[{"apiVersion":"demo.example/v1","fieldsType":"FieldsV1","fieldsV1":{"f:status":{"f:ready":{}}},"manager":"ctl","subresource":"status","operation":"Apply"}],"name":"w1","namespace":"default","resourceVersion":"3"},"status":{"ready":2}} => refused
 object {"apiVersion":"demo.example/v1","kind":"Widget","metadata":{"managedFields":[{"apiVersion":"demo.example/v1","fieldsType":"FieldsV1","fieldsV1":{"f:status":{"f:ready":{}}},"manager":"ctl","operation":"Apply","subresource":"status"},{"apiVersion":"demo.example/v1","fieldsType":"FieldsV1","fieldsV1":{"f:spec":{"f:replicas":{}}},"manager":"ctl","operation":"Apply"}],"name":"w1","namespace":"default","resourceVersion":"3"},"spec":{"replicas":3},"status":{"ready":2}} => refused"#;
-
-#[test]
-fn managers_by_status(rt: HostRuntime) -> Result<(), Fail> {
-    play_under(rt.alloc(), READY_TYPES, BY_STATUS)
-}

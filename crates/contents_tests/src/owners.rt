@@ -1,18 +1,17 @@
-//! Worked rows as far as owners go, each public call with ample memory, and applies that run out of it. Contents
-//! without owners are tested in `readings`, objects' texts in `object_texts`.
+//! Writes that run out of memory, and the order of managers. With ample memory writes are in `tests/owners` at the top;
+//! contents without owners are tested in `readings`, objects' texts in `object_texts`.
 //!
 //! Each example begins without an object.
 //!
 //! | question | answer |
 //! |---|---|
-//! | `NAME SPEC` | what stands after an apply, by force with `!` behind the name, or after an update with `=`: the content, each manager and its paths, and `as before` where it is; or the conflicts |
+//! | `NAME SPEC` | after an apply, by force with `!` behind the name, or after an update with `=`: whether what stands is as before, and its text at version 4; or the conflicts |
 //! | `NAME SPEC STATUS` | the same of a body that has a `status` too; `/status` behind the name (before `!` and `=`) writes by it |
 //! | `anew NAME SPEC` | the same between marks, or once more where it was refused memory; what stands stays |
-//! | `object` | the text of the object `w1` at version 4 |
 //! | `managers NAME/OPERATION NAME/OPERATION` | how two managers compare, and whether they are the same; `/status` behind one that wrote by `status` |
 
 use crate::contents::w1;
-use crate::given::{READY_TYPES, WIDGET_TYPES, first_schema, printed, push_paths, tree, types_of};
+use crate::given::{READY_TYPES, WIDGET_TYPES, first_schema, tree, types_of};
 use api_types::Types;
 use ownership::{
     ApplyFault, Conflict, Manager, Operation, Owned, Subresource, apply, is_same, update,
@@ -37,7 +36,6 @@ impl Answers for Existing {
         let (call, words) = first_word(question);
         match call {
             "anew" => answer_anew(alloc, schema, &self.owned, words),
-            "object" => Ok(self.owned.to_object(alloc, schema, w1(), 4)?),
             "managers" => compared(alloc, words),
             _ => step(alloc, schema, &mut self.owned, call, words),
         }
@@ -76,43 +74,15 @@ fn body(alloc: Global, schema: &Schema, words: &str) -> Result<Tree, Fail> {
     tree(alloc, schema, text.as_str())
 }
 
-/// Puts a subresource, unless it is the main resource.
-fn push_subresource(text: &mut String, subresource: &str) -> Result<(), AllocError> {
-    if subresource.is_empty() {
-        return Ok(());
-    }
-    text.push_str("/")?;
-    text.push_str(subresource)
-}
-
-fn push_manager(text: &mut String, manager: &Manager) -> Result<(), AllocError> {
-    text.push_str(" ")?;
-    text.push_str(manager.name.as_str())?;
-    text.push_str("/")?;
-    text.push_str(manager.operation.text())?;
-    push_subresource(text, manager.subresource.text())
-}
-
-/// Puts each manager with its paths.
-fn push_managers(alloc: Global, text: &mut String, owned: &Owned) -> Result<(), AllocError> {
-    for entry in owned.managers.entries() {
-        push_manager(text, &entry.manager)?;
-        push_paths(alloc, text, &entry.paths)?;
-    }
-    Ok(())
-}
-
-/// The content, and each manager with its paths.
-fn shown(alloc: Global, schema: &Schema, owned: &Owned) -> Result<String, Fail> {
-    let mut text = printed(alloc, schema, &owned.tree)?;
-    push_managers(alloc, &mut text, owned)?;
-    Ok(text)
+/// What stands and who owns it.
+fn shown(alloc: Global, schema: &Schema, owned: &Owned) -> Result<String, AllocError> {
+    owned.to_object(alloc, schema, w1(), 4)
 }
 
 fn push_conflict(alloc: Global, text: &mut String, conflict: &Conflict) -> Result<(), AllocError> {
-    text.push_str(" ")?;
-    text.push_str(conflict.path.shown(alloc)?.as_str())?;
-    push_manager(text, &conflict.manager)
+    let path = conflict.path.shown(alloc)?;
+    let manager = &conflict.manager;
+    text.push_str(format!(in alloc; " {path} {manager:?}")?.as_str())
 }
 
 /// Each conflict's path and who owns it.
@@ -124,13 +94,7 @@ fn listed(alloc: Global, conflicts: &[Conflict]) -> Result<String, Fail> {
     Ok(text)
 }
 
-fn shown_as_before(alloc: Global, schema: &Schema, owned: &Owned) -> Result<String, Fail> {
-    let mut text = shown(alloc, schema, owned)?;
-    text.push_str(" as before")?;
-    Ok(text)
-}
-
-/// What stands then and who owns it, and whether that is as what stood; or the conflicts.
+/// Whether what stands then is as what stood, and its text; or the conflicts.
 fn shown_beside(
     alloc: Global,
     schema: &Schema,
@@ -138,8 +102,10 @@ fn shown_beside(
     answer: &Result<Owned, ApplyFault>,
 ) -> Result<String, Fail> {
     match answer {
-        Ok(owned) if is_same(owned, live) => shown_as_before(alloc, schema, owned),
-        Ok(owned) => shown(alloc, schema, owned),
+        Ok(owned) => {
+            let text = shown(alloc, schema, owned)?;
+            Ok(format!(in alloc; "{} {text}", is_same(owned, live))?)
+        }
         Err(ApplyFault::Conflicts(conflicts)) => listed(alloc, conflicts),
         Err(ApplyFault::Memory) => Err("no memory".into()),
     }
@@ -242,39 +208,7 @@ fn answer_anew(alloc: Global, schema: &Schema, live: &Owned, line: &str) -> Resu
     shown_beside(alloc, schema, live, &answer)
 }
 
-const EXAMPLES: &str = r#"item_kept_for_other_owner
-alice {"ports":[{"name":"web","port":80}]} => {"spec":{"ports":[{"name":"web","port":80}]}} alice/Apply .spec.ports[name="web"] .spec.ports[name="web"].port
-carol= {"ports":[{"name":"web","note":"x","port":80}]} => {"spec":{"ports":[{"name":"web","note":"x","port":80}]}} alice/Apply .spec.ports[name="web"] .spec.ports[name="web"].port carol/Update .spec.ports[name="web"].note
-alice {} => {"spec":{"ports":[{"name":"web","note":"x"}]}} carol/Update .spec.ports[name="web"].note
-object => {"apiVersion":"demo.example/v1","kind":"Widget","metadata":{"managedFields":[{"apiVersion":"demo.example/v1","fieldsType":"FieldsV1","fieldsV1":{"f:spec":{"f:ports":{"k:{\"name\":\"web\"}":{"f:note":{}}}}},"manager":"carol","operation":"Update"}],"name":"w1","namespace":"default","resourceVersion":"4"},"spec":{"ports":[{"name":"web","note":"x"}]}}
-
-set_items
-alice {"tags":["b","a"]} => {"spec":{"tags":["a","b"]}} alice/Apply .spec.tags[="a"] .spec.tags[="b"]
-bob {"tags":["b","c"]} => {"spec":{"tags":["a","b","c"]}} alice/Apply .spec.tags[="a"] .spec.tags[="b"] bob/Apply .spec.tags[="b"] .spec.tags[="c"]
-alice {} => {"spec":{"tags":["b","c"]}} bob/Apply .spec.tags[="b"] .spec.tags[="c"]
-
-atomic_list
-alice {"args":["x","y"]} => {"spec":{"args":["x","y"]}} alice/Apply .spec.args
-bob {"args":["x"]} => conflicts: .spec.args alice/Apply
-alice {"args":["x","y"],"tags":[]} => {"spec":{"args":["x","y"]}} alice/Apply .spec.args as before
-
-all_conflicts_listed
-alice {"replicas":3} => {"spec":{"replicas":3}} alice/Apply .spec.replicas
-bob {"replicas":3} => {"spec":{"replicas":3}} alice/Apply .spec.replicas bob/Apply .spec.replicas
-carol {"replicas":4} => conflicts: .spec.replicas alice/Apply .spec.replicas bob/Apply
-carol! {"replicas":4} => {"spec":{"replicas":4}} carol/Apply .spec.replicas
-
-update_and_version
-bob {"image":"a","replicas":5} => {"spec":{"image":"a","replicas":5}} bob/Apply .spec.image .spec.replicas
-dave= {"image":"a","replicas":5} => {"spec":{"image":"a","replicas":5}} bob/Apply .spec.image .spec.replicas as before
-dave= {"image":"b"} => {"spec":{"image":"b"}} dave/Update .spec.image
-
-force_takes_over_a_field_of_an_item
-alice {"ports":[{"name":"web","note":"x","port":80}]} => {"spec":{"ports":[{"name":"web","note":"x","port":80}]}} alice/Apply .spec.ports[name="web"] .spec.ports[name="web"].note .spec.ports[name="web"].port
-bob {"ports":[{"name":"web","port":81}]} => conflicts: .spec.ports[name="web"].port alice/Apply
-bob! {"ports":[{"name":"web","port":81}]} => {"spec":{"ports":[{"name":"web","note":"x","port":81}]}} alice/Apply .spec.ports[name="web"] .spec.ports[name="web"].note bob/Apply .spec.ports[name="web"] .spec.ports[name="web"].port
-
-managers_in_order
+const MANAGERS: &str = r#"managers_in_order
 managers alice/Update bob/Apply => (Less, false)
 managers bob/Apply bob/Update => (Less, false)
 managers bob/Apply bob/Apply => (Equal, true)
@@ -283,51 +217,20 @@ managers bob/Apply/status bob/Update => (Less, false)
 managers bob/Apply/status bob/Apply/status => (Equal, true)"#;
 
 #[test]
-fn examples(rt: HostRuntime) -> Result<(), Fail> {
-    play_each(rt.alloc(), WIDGET_TYPES, EXAMPLES)
-}
-
-const BY_STATUS: &str = r#"each_side_keeps_to_itself
-alice {"replicas":3} {"ready":1} => {"spec":{"replicas":3}} alice/Apply .spec.replicas
-ctl/status {"replicas":9} {"ready":2} => {"spec":{"replicas":3},"status":{"ready":2}} alice/Apply .spec.replicas ctl/Apply/status .status.ready
-object => {"apiVersion":"demo.example/v1","kind":"Widget","metadata":{"managedFields":[{"apiVersion":"demo.example/v1","fieldsType":"FieldsV1","fieldsV1":{"f:spec":{"f:replicas":{}}},"manager":"alice","operation":"Apply"},{"apiVersion":"demo.example/v1","fieldsType":"FieldsV1","fieldsV1":{"f:status":{"f:ready":{}}},"manager":"ctl","operation":"Apply","subresource":"status"}],"name":"w1","namespace":"default","resourceVersion":"4"},"spec":{"replicas":3},"status":{"ready":2}}
-alice= {"replicas":3} => {"spec":{"replicas":3},"status":{"ready":2}} alice/Apply .spec.replicas ctl/Apply/status .status.ready as before
-alice= {"replicas":4} {"ready":8} => {"spec":{"replicas":4},"status":{"ready":2}} alice/Update .spec.replicas ctl/Apply/status .status.ready
-alice= {} => {"status":{"ready":2}} ctl/Apply/status .status.ready
-alice {} => {"status":{"ready":2}} ctl/Apply/status .status.ready as before
-ctl/status {"replicas":9} => nothing
-
-a_conflict_and_a_takeover_of_status
-alice {"replicas":3} => {"spec":{"replicas":3}} alice/Apply .spec.replicas
-ctl/status {} {"ready":2} => {"spec":{"replicas":3},"status":{"ready":2}} alice/Apply .spec.replicas ctl/Apply/status .status.ready
-bob/status {"replicas":9} {"ready":5} => conflicts: .status.ready ctl/Apply/status
-bob {} {"ready":5} => {"spec":{"replicas":3},"status":{"ready":2}} alice/Apply .spec.replicas ctl/Apply/status .status.ready as before
-bob/status! {"replicas":9} {"ready":5} => {"spec":{"replicas":3},"status":{"ready":5}} alice/Apply .spec.replicas bob/Apply/status .status.ready
-ctl/status= {"replicas":9} {"ready":6} => {"spec":{"replicas":3},"status":{"ready":6}} alice/Apply .spec.replicas ctl/Update/status .status.ready
-bob! {"replicas":4} {"ready":7} => {"spec":{"replicas":4},"status":{"ready":6}} bob/Apply .spec.replicas ctl/Update/status .status.ready
-ctl/status= {"replicas":4} {} => {"spec":{"replicas":4}} bob/Apply .spec.replicas
-
-one_name_on_both_sides
-alice {"replicas":3} => {"spec":{"replicas":3}} alice/Apply .spec.replicas
-alice/status {} {"ready":1} => {"spec":{"replicas":3},"status":{"ready":1}} alice/Apply .spec.replicas alice/Apply/status .status.ready
-alice {} => {"status":{"ready":1}} alice/Apply/status .status.ready
-alice/status {} => nothing"#;
-
-#[test]
-fn writes_by_status(rt: HostRuntime) -> Result<(), Fail> {
-    play_each(rt.alloc(), READY_TYPES, BY_STATUS)
+fn managers(rt: HostRuntime) -> Result<(), Fail> {
+    play_each(rt.alloc(), WIDGET_TYPES, MANAGERS)
 }
 
 const ANEW: &str = r#"an apply with conflicts, one by force, one that drops
-alice {"image":"a","ports":[{"name":"web","port":80}]} => {"spec":{"image":"a","ports":[{"name":"web","port":80}]}} alice/Apply .spec.image .spec.ports[name="web"] .spec.ports[name="web"].port
-bob {"image":"a","tags":["x"]} => {"spec":{"image":"a","ports":[{"name":"web","port":80}],"tags":["x"]}} alice/Apply .spec.image .spec.ports[name="web"] .spec.ports[name="web"].port bob/Apply .spec.image .spec.tags[="x"]
-anew alice {"image":"b","tags":["y"]} => conflicts: .spec.image bob/Apply
-anew alice! {"image":"b","tags":["y"]} => {"spec":{"image":"b","tags":["x","y"]}} alice/Apply .spec.image .spec.tags[="y"] bob/Apply .spec.tags[="x"]
-anew alice {} => {"spec":{"image":"a","tags":["x"]}} bob/Apply .spec.image .spec.tags[="x"]
+alice {"image":"a","ports":[{"name":"web","port":80}]} => false {"apiVersion":"demo.example/v1","kind":"Widget","metadata":{"managedFields":[{"apiVersion":"demo.example/v1","fieldsType":"FieldsV1","fieldsV1":{"f:spec":{"f:image":{},"f:ports":{"k:{\"name\":\"web\"}":{".":{},"f:name":{},"f:port":{}}}}},"manager":"alice","operation":"Apply"}],"name":"w1","namespace":"default","resourceVersion":"4"},"spec":{"image":"a","ports":[{"name":"web","port":80}]}}
+bob {"image":"a","tags":["x"]} => false {"apiVersion":"demo.example/v1","kind":"Widget","metadata":{"managedFields":[{"apiVersion":"demo.example/v1","fieldsType":"FieldsV1","fieldsV1":{"f:spec":{"f:image":{},"f:ports":{"k:{\"name\":\"web\"}":{".":{},"f:name":{},"f:port":{}}}}},"manager":"alice","operation":"Apply"},{"apiVersion":"demo.example/v1","fieldsType":"FieldsV1","fieldsV1":{"f:spec":{"f:image":{},"f:tags":{"v:\"x\"":{}}}},"manager":"bob","operation":"Apply"}],"name":"w1","namespace":"default","resourceVersion":"4"},"spec":{"image":"a","ports":[{"name":"web","port":80}],"tags":["x"]}}
+anew alice {"image":"b","tags":["y"]} => conflicts: .spec.image Manager { name: "bob", operation: Apply, subresource: Main }
+anew alice! {"image":"b","tags":["y"]} => false {"apiVersion":"demo.example/v1","kind":"Widget","metadata":{"managedFields":[{"apiVersion":"demo.example/v1","fieldsType":"FieldsV1","fieldsV1":{"f:spec":{"f:image":{},"f:tags":{"v:\"y\"":{}}}},"manager":"alice","operation":"Apply"},{"apiVersion":"demo.example/v1","fieldsType":"FieldsV1","fieldsV1":{"f:spec":{"f:tags":{"v:\"x\"":{}}}},"manager":"bob","operation":"Apply"}],"name":"w1","namespace":"default","resourceVersion":"4"},"spec":{"image":"b","tags":["x","y"]}}
+anew alice {} => false {"apiVersion":"demo.example/v1","kind":"Widget","metadata":{"managedFields":[{"apiVersion":"demo.example/v1","fieldsType":"FieldsV1","fieldsV1":{"f:spec":{"f:image":{},"f:tags":{"v:\"x\"":{}}}},"manager":"bob","operation":"Apply"}],"name":"w1","namespace":"default","resourceVersion":"4"},"spec":{"image":"a","tags":["x"]}}
 
 one that creates
-carol= {} => nothing as before
-anew alice {"image":"a"} => {"spec":{"image":"a"}} alice/Apply .spec.image"#;
+carol= {} => true {"apiVersion":"demo.example/v1","kind":"Widget","metadata":{"name":"w1","namespace":"default","resourceVersion":"4"}}
+anew alice {"image":"a"} => false {"apiVersion":"demo.example/v1","kind":"Widget","metadata":{"managedFields":[{"apiVersion":"demo.example/v1","fieldsType":"FieldsV1","fieldsV1":{"f:spec":{"f:image":{}}},"manager":"alice","operation":"Apply"}],"name":"w1","namespace":"default","resourceVersion":"4"},"spec":{"image":"a"}}"#;
 
 /// Whichever allocation of an apply is refused, what stands stays, and the apply is answered when it is called again.
 #[test]
@@ -336,12 +239,12 @@ fn an_apply_that_is_refused_memory(rt: HostRuntime) -> Result<(), Fail> {
 }
 
 const STATUS_ANEW: &str = r#"an apply and an update of each side
-alice {"replicas":3} => {"spec":{"replicas":3}} alice/Apply .spec.replicas
-anew ctl/status {} {"ready":2} => {"spec":{"replicas":3},"status":{"ready":2}} alice/Apply .spec.replicas ctl/Apply/status .status.ready
-anew ctl/status= {} {"ready":2} => {"spec":{"replicas":3},"status":{"ready":2}} alice/Apply .spec.replicas ctl/Update/status .status.ready
-ctl/status {} {"ready":2} => {"spec":{"replicas":3},"status":{"ready":2}} alice/Apply .spec.replicas ctl/Apply/status .status.ready
-anew alice {"replicas":4} => {"spec":{"replicas":4},"status":{"ready":2}} alice/Apply .spec.replicas ctl/Apply/status .status.ready
-anew alice= {"replicas":4} => {"spec":{"replicas":4},"status":{"ready":2}} alice/Update .spec.replicas ctl/Apply/status .status.ready"#;
+alice {"replicas":3} => false {"apiVersion":"demo.example/v1","kind":"Widget","metadata":{"managedFields":[{"apiVersion":"demo.example/v1","fieldsType":"FieldsV1","fieldsV1":{"f:spec":{"f:replicas":{}}},"manager":"alice","operation":"Apply"}],"name":"w1","namespace":"default","resourceVersion":"4"},"spec":{"replicas":3}}
+anew ctl/status {} {"ready":2} => false {"apiVersion":"demo.example/v1","kind":"Widget","metadata":{"managedFields":[{"apiVersion":"demo.example/v1","fieldsType":"FieldsV1","fieldsV1":{"f:spec":{"f:replicas":{}}},"manager":"alice","operation":"Apply"},{"apiVersion":"demo.example/v1","fieldsType":"FieldsV1","fieldsV1":{"f:status":{"f:ready":{}}},"manager":"ctl","operation":"Apply","subresource":"status"}],"name":"w1","namespace":"default","resourceVersion":"4"},"spec":{"replicas":3},"status":{"ready":2}}
+anew ctl/status= {} {"ready":2} => false {"apiVersion":"demo.example/v1","kind":"Widget","metadata":{"managedFields":[{"apiVersion":"demo.example/v1","fieldsType":"FieldsV1","fieldsV1":{"f:spec":{"f:replicas":{}}},"manager":"alice","operation":"Apply"},{"apiVersion":"demo.example/v1","fieldsType":"FieldsV1","fieldsV1":{"f:status":{"f:ready":{}}},"manager":"ctl","operation":"Update","subresource":"status"}],"name":"w1","namespace":"default","resourceVersion":"4"},"spec":{"replicas":3},"status":{"ready":2}}
+ctl/status {} {"ready":2} => false {"apiVersion":"demo.example/v1","kind":"Widget","metadata":{"managedFields":[{"apiVersion":"demo.example/v1","fieldsType":"FieldsV1","fieldsV1":{"f:spec":{"f:replicas":{}}},"manager":"alice","operation":"Apply"},{"apiVersion":"demo.example/v1","fieldsType":"FieldsV1","fieldsV1":{"f:status":{"f:ready":{}}},"manager":"ctl","operation":"Apply","subresource":"status"}],"name":"w1","namespace":"default","resourceVersion":"4"},"spec":{"replicas":3},"status":{"ready":2}}
+anew alice {"replicas":4} => false {"apiVersion":"demo.example/v1","kind":"Widget","metadata":{"managedFields":[{"apiVersion":"demo.example/v1","fieldsType":"FieldsV1","fieldsV1":{"f:spec":{"f:replicas":{}}},"manager":"alice","operation":"Apply"},{"apiVersion":"demo.example/v1","fieldsType":"FieldsV1","fieldsV1":{"f:status":{"f:ready":{}}},"manager":"ctl","operation":"Apply","subresource":"status"}],"name":"w1","namespace":"default","resourceVersion":"4"},"spec":{"replicas":4},"status":{"ready":2}}
+anew alice= {"replicas":4} => false {"apiVersion":"demo.example/v1","kind":"Widget","metadata":{"managedFields":[{"apiVersion":"demo.example/v1","fieldsType":"FieldsV1","fieldsV1":{"f:spec":{"f:replicas":{}}},"manager":"alice","operation":"Update"},{"apiVersion":"demo.example/v1","fieldsType":"FieldsV1","fieldsV1":{"f:status":{"f:ready":{}}},"manager":"ctl","operation":"Apply","subresource":"status"}],"name":"w1","namespace":"default","resourceVersion":"4"},"spec":{"replicas":4},"status":{"ready":2}}"#;
 
 /// The same of applies and updates of each side.
 #[test]

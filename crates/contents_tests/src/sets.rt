@@ -7,15 +7,13 @@
 //! |---|---|
 //! | `union SET and SET`, `minus ..`, `common ..`, `clear-of ..` | the paths of what is made of two sets |
 //! | `find PATH in SET` | whether the set has the path, has one at or below it, and has none |
-//! | `fields SET` | its FieldsV1 value under the widgets' schema |
 //! | `under MAP and MAP`, `changed-under ..`, `without ..`, `changed ..`, `copy ..` | the paths of what is made of two maps |
 //! | `holds PATH=VALUE in MAP` | whether the value stands at the path |
 //! | `children ELEMENT=VALUE,..` | of each value that is put below an element, whether it was put; then the children, in order |
 //! | `below ELEMENT in MAP` | what stands at the element itself |
 //! | `simplest` | whether a new set and a new map are empty, a leaf has the empty path, and a marked map has a mark there |
 
-use crate::contents::written;
-use crate::given::{WIDGET_TYPES, first_schema, path, shown_paths, types_of};
+use crate::given::{path, shown_paths};
 use fieldpath::{ElemText, Path};
 use fieldset::FieldSet;
 use pathmap::{PathMap, PathValue, put_under};
@@ -32,7 +30,6 @@ impl Answers for Sets {
         match call {
             "union" | "minus" | "common" | "clear-of" => of_two_sets(alloc, call, words),
             "find" => found(alloc, words),
-            "fields" => fields_v1(alloc, words),
             "holds" => is_held(alloc, words),
             "children" => children(alloc, words),
             "below" => below(alloc, words),
@@ -89,11 +86,6 @@ fn found(alloc: Global, words: &str) -> Result<String, Fail> {
             set.is_empty(),
         ),
     )
-}
-
-fn fields_v1(alloc: Global, paths: &str) -> Result<String, Fail> {
-    let types = types_of(alloc, WIDGET_TYPES)?;
-    written(alloc, first_schema(&types)?, &set(alloc, paths)?)
 }
 
 /// A number, or else a text.
@@ -230,10 +222,6 @@ paths_are_found
 find f:a f:b in f:a f:b => (true, true, false)
 find f:a in f:a f:b => (false, true, false)
 find f:a f:b in f:a => (false, false, false)
-
-fields_v1_of_paths
-fields f:spec f:image,f:spec f:tags v:"a" => {"f:spec":{"f:image":{},"f:tags":{"v:\"a\"":{}}}}
-fields f:spec f:ports k:{"name":"web"},f:spec f:ports k:{"name":"web"} f:port => {"f:spec":{"f:ports":{"k:{\"name\":\"web\"}":{".":{},"f:name":{},"f:port":{}}}}}
 
 maps_of_paths
 under f:a=x,f:b=1,f:c f:d=2 and f:a=y,f:b=1,f:c=3 => paths .a .b .c .c.d

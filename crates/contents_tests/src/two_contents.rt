@@ -5,12 +5,12 @@
 //! | `merge TEXT and TEXT` | a copy of the second content over the first |
 //! | `lay TEXT and TEXT` | the first content laid over the second |
 //! | `less TEXT and TEXT` | the first content without the paths of the second |
-//! | `compare TEXT and TEXT` | the paths of the first content, those changed from the second, and those added, modified and removed |
+//! | `own TEXT and TEXT` | the paths of the first content |
+//! | `changed TEXT and TEXT`, `added ..`, `modified ..`, `removed ..` | those that differ from the second, and how |
 //!
 //! A function here holds at most one content or set of its own over a `?`: one with two took half a minute to prove.
 
-use crate::given::{printed, push_paths, tree};
-use fieldset::FieldSet;
+use crate::given::{printed, shown_paths, tree};
 use objects::{Changes, changed_from, compare, paths_in, without};
 use schema::Schema;
 use std::alloc::{AllocError, Global};
@@ -27,8 +27,8 @@ pub fn answer_of_two(
     let (one, other) = texts.split_once(" and ").ok_or("no other text")?;
     let other = tree(alloc, schema, other)?;
     match call {
-        "compare" => compared(alloc, schema, one, &other),
-        _ => made(alloc, schema, call, one, &other),
+        "merge" | "lay" | "less" => made(alloc, schema, call, one, &other),
+        _ => paths(alloc, schema, call, one, &other),
     }
 }
 
@@ -47,8 +47,7 @@ fn joined(alloc: Global, call: &str, one: Tree, other: &Tree) -> Result<Tree, Fa
     match call {
         "merge" => Ok(merged(alloc, one, other)?),
         "lay" => Ok(one.laid_over(alloc, other)?),
-        "less" => Ok(less(alloc, one, other)?),
-        _ => Err("no such call".into()),
+        _ => Ok(less(alloc, one, other)?),
     }
 }
 
@@ -60,46 +59,27 @@ fn less(alloc: Global, one: Tree, other: &Tree) -> Result<Tree, AllocError> {
     Ok(without(one, &paths_in(other, alloc)?))
 }
 
-fn compared(alloc: Global, schema: &Schema, text: &str, old: &Tree) -> Result<String, Fail> {
+/// What is asked of the paths of two contents.
+fn paths(
+    alloc: Global,
+    schema: &Schema,
+    call: &str,
+    text: &str,
+    old: &Tree,
+) -> Result<String, Fail> {
     let new = tree(alloc, schema, text)?;
-    let mut shown = String::from_str(alloc, "|")?;
-    push_compared(alloc, &mut shown, &new, old)?;
-    Ok(shown)
+    match call {
+        "own" => shown_paths(alloc, &paths_in(&new, alloc)?),
+        "changed" => shown_paths(alloc, &changed_from(&new, alloc, old)?),
+        _ => shown_changes(alloc, call, &compare(&new, alloc, old)?),
+    }
 }
 
-/// Puts the parts of what is asked of two contents side by side.
-fn push_compared(
-    alloc: Global,
-    text: &mut String,
-    new: &Tree,
-    old: &Tree,
-) -> Result<(), AllocError> {
-    push_own(alloc, text, new)?;
-    push_changed(alloc, text, new, old)?;
-    push_changes(alloc, text, &compare(new, alloc, old)?)
-}
-
-fn push_own(alloc: Global, text: &mut String, new: &Tree) -> Result<(), AllocError> {
-    push_part(alloc, text, &paths_in(new, alloc)?)
-}
-
-fn push_changed(
-    alloc: Global,
-    text: &mut String,
-    new: &Tree,
-    old: &Tree,
-) -> Result<(), AllocError> {
-    push_part(alloc, text, &changed_from(new, alloc, old)?)
-}
-
-fn push_changes(alloc: Global, text: &mut String, changes: &Changes) -> Result<(), AllocError> {
-    push_part(alloc, text, &changes.added)?;
-    push_part(alloc, text, &changes.modified)?;
-    push_part(alloc, text, &changes.removed)
-}
-
-/// Puts the paths as conflicts show them, each behind a blank, and a bar.
-fn push_part(alloc: Global, text: &mut String, set: &FieldSet) -> Result<(), AllocError> {
-    push_paths(alloc, text, set)?;
-    text.push_str(" |")
+fn shown_changes(alloc: Global, call: &str, changes: &Changes) -> Result<String, Fail> {
+    match call {
+        "added" => shown_paths(alloc, &changes.added),
+        "modified" => shown_paths(alloc, &changes.modified),
+        "removed" => shown_paths(alloc, &changes.removed),
+        _ => Err("no such call".into()),
+    }
 }

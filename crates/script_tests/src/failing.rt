@@ -1,8 +1,9 @@
 //! Plays whose writer takes only some bytes, or whose link carries only some pieces; over loopback, also those whose
-//! sockets fail. What a program makes of that is tested in `replays`.
+//! sockets fail. What a program makes of that is in `tests/scripts` at the top.
 
 use crate::failing_net::{FailingNet, Fate};
 use api_types::Types;
+use programs::RunFault;
 use scripts::{OverLoopback, ReplayFault, read_script, replay};
 use serde_json::Value;
 use std::alloc::{AllocError, Global};
@@ -142,6 +143,26 @@ fn played_with(
     played_through(rt.alloc(), events, &FailingNet { rt, fate })
 }
 
+/// Whether a play that could write so often has ended as it must: with all, or with a prefix and the writer's fault.
+fn is_right(ended: &Result<(), ReplayFault>, taken: &[u8], whole: &[u8], writes: usize) -> bool {
+    match ended {
+        Ok(()) => taken == whole && 8 < writes,
+        Err(ReplayFault::Write(_)) => {
+            let most = writes.saturating_mul(MOST);
+            taken.len() <= most && taken.len() < whole.len() && whole.starts_with(taken)
+        }
+        Err(_) => false,
+    }
+}
+
+/// The test fails unless a play has written nothing, and tells that the link failed.
+fn expect_fault_of_link(played: &(Result<(), ReplayFault>, Vec<u8>)) -> Result<(), Fail> {
+    match &played.0 {
+        Err(ReplayFault::Link) if played.1.is_empty() => Ok(()),
+        _ => Err(Fail::new("no fault of the link")),
+    }
+}
+
 /// With one write less than it needs a play has written a prefix, and tells that the writer failed.
 #[test]
 fn output_fails_at_each_write(rt: HostRuntime) -> Result<(), Fail> {
@@ -150,22 +171,11 @@ fn output_fails_at_each_write(rt: HostRuntime) -> Result<(), Fail> {
     let (_, whole) = played(alloc, &events, PIECES, 1000)?;
     for writes in 0..1000 {
         let (ended, taken) = played(alloc, &events, PIECES, writes)?;
-        match ended {
-            Ok(()) => {
-                assert_eq!(rt;
-                    (taken.as_slice() == whole.as_slice(), 8 < writes),
-                    (true, true)
-                );
-                return Ok(());
-            }
-            Err(ReplayFault::Write(_)) => {
-                assert_eq!(rt;
-                    (whole.starts_with(&taken), taken.len() <= writes * MOST),
-                    (true, true)
-                );
-                assert_eq!(rt; taken.len() < whole.len(), true);
-            }
-            Err(_) => return Err(Fail::new("another fault")),
+        if !is_right(&ended, &taken, &whole, writes) {
+            return Err(Fail::new("another end"));
+        }
+        if ended.is_ok() {
+            return Ok(());
         }
     }
     Err(Fail::new("it never ends"))
@@ -177,15 +187,13 @@ fn link_fails_at_each_piece(rt: HostRuntime) -> Result<(), Fail> {
     let alloc = rt.alloc();
     let events = read_script(alloc, SCRIPT)?;
     for pieces in 0..PIECES {
-        let (ended, taken) = played(alloc, &events, pieces, 1000)?;
-        match ended {
-            Err(ReplayFault::Link) => assert_eq!(rt; taken.len(), 0),
-            _ => return Err(Fail::new("no fault of the link")),
-        }
+        expect_fault_of_link(&played(alloc, &events, pieces, 1000)?)?;
     }
     let (ended, _) = played(alloc, &events, PIECES, 1000)?;
-    assert_eq!(rt; ended.is_ok(), true);
-    Ok(())
+    match ended {
+        Ok(()) => Ok(()),
+        Err(_) => Err(Fail::new("a fault")),
+    }
 }
 
 /// With one call less than it needs, of those that bind, connect, accept, write and read, a play over loopback has
@@ -194,29 +202,26 @@ fn link_fails_at_each_piece(rt: HostRuntime) -> Result<(), Fail> {
 fn sockets_fail_at_each_call(rt: HostRuntime) -> Result<(), Fail> {
     let events = read_script(rt.alloc(), SCRIPT)?;
     for calls in 0..CALLS {
-        let (ended, taken) = played_with(&rt, &events, &Fate::new(calls, false))?;
-        match ended {
-            Err(ReplayFault::Link) => assert_eq!(rt; taken.len(), 0),
-            _ => return Err(Fail::new("no fault of the link")),
-        }
+        expect_fault_of_link(&played_with(&rt, &events, &Fate::new(calls, false))?)?;
     }
     let (ended, taken) = played_with(&rt, &events, &Fate::new(CALLS, false))?;
     let (_, whole) = played_over(rt.alloc(), &events, &mut OverMemory, 1000)?;
-    assert_eq!(rt;
-        (ended.is_ok(), taken.as_slice() == whole.as_slice()),
-        (true, true)
-    );
-    Ok(())
+    if ended.is_ok() && taken.as_slice() == whole.as_slice() {
+        return Ok(());
+    }
+    Err(Fail::new("a fault"))
 }
 
 /// Bytes that arrive otherwise than they were written are a fault of the link.
 #[test]
 fn garbled_bytes_are_reported(rt: HostRuntime) -> Result<(), Fail> {
     let events = read_script(rt.alloc(), SCRIPT)?;
-    let (ended, taken) = played_with(&rt, &events, &Fate::new(CALLS, true))?;
-    match ended {
-        Err(ReplayFault::Link) => assert_eq!(rt; taken.len(), 0),
-        _ => return Err(Fail::new("no fault of the link")),
-    }
+    expect_fault_of_link(&played_with(&rt, &events, &Fate::new(CALLS, true))?)
+}
+
+#[test]
+fn faults_of_memory_have_a_status(rt: HostRuntime) -> Result<(), Fail> {
+    let statuses = (RunFault::Memory.status(), RunFault::Store.status());
+    assert_eq!(rt; statuses, (5, 5));
     Ok(())
 }

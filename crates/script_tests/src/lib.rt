@@ -1,14 +1,8 @@
-//! Tests of scripts and of the programs that play them, by public calls alone: what a run prints and how it ends, over
-//! memory and over loopback, and where a stream or a link fails.
+//! Tests of what only linked calls show of scripts: where a writer, a link, or a socket fails. What the programs print is in
+//! `tests/scripts` at the top.
 #![tactic(auto)]
 
 #[cfg(test)]
 mod failing;
 #[cfg(test)]
 mod failing_net;
-#[cfg(test)]
-mod pipes;
-#[cfg(test)]
-mod recording;
-#[cfg(test)]
-mod replays;

@@ -1,8 +1,9 @@
-//! Tests of calls on objects and of the server's side of the wire, by public calls alone; of streams and sockets (`streams`);
-//! and of a controller beside a server (`controller`). Scripts are tested in `script_tests`.
+//! Tests of what only linked calls show of the server: refused memory, what is kept of connections that are over, plans, and the
+//! library of its program; turns over streams that fail, and sockets within this process (`streams`); and a controller beside a
+//! server (`controller`). What programs answer is in `tests/` at the top.
 //!
-//! All that is done to hubs are rows of text, which functions of `test_rows` play that know nothing of a hub: rows cost the
-//! prover nothing, and here stands no more of a hub than its calls (`hub_rows`).
+//! What is done to hubs are rows of text, which functions of `test_rows` play that know nothing of a hub: rows cost the prover
+//! nothing, and here stands no more of a hub than its calls (`hub_rows`).
 #![tactic(auto)]
 
 #[cfg(test)]
@@ -10,28 +11,16 @@ mod connections;
 #[cfg(test)]
 mod controller;
 #[cfg(test)]
-mod discovery_rows;
+mod effects;
 #[cfg(test)]
 mod given;
 #[cfg(test)]
 mod hub_rows;
 #[cfg(test)]
-mod lenient_rows;
-#[cfg(test)]
-mod list_rows;
-#[cfg(test)]
-mod pieces;
-#[cfg(test)]
 mod plans;
 #[cfg(test)]
 mod refused_memory;
 #[cfg(test)]
-mod retype_rows;
-#[cfg(test)]
-mod single_objects;
-#[cfg(test)]
-mod status_rows;
+mod server_programs;
 #[cfg(test)]
 mod streams;
-#[cfg(test)]
-mod watch_rows;

@@ -5,8 +5,6 @@
 #![tactic(auto)]
 
 mod marking;
-mod pieces;
-mod replies;
 mod rows;
 mod served;
 mod served_rows;
@@ -17,5 +15,5 @@ pub use marking::mark;
 pub use rows::{Answers, play, play_all};
 pub use served::Serves;
 pub use served_rows::play_served;
-pub use texts::{bytes_of, line_of, plain_bytes};
+pub use texts::{bytes_of, line_of};
 pub use words::{expect_text, first_word, in_words, number};

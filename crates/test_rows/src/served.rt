@@ -30,65 +30,25 @@ pub trait Serves {
     /// How many connections are held, and how many ranges of ids of all others.
     fn kept(&self) -> (usize, usize);
 
-    fn next_id(&self) -> Option<u64>;
-
     /// The bytes of a request, whose target stands behind the path of the version.
     fn request(alloc: Global, method: &str, target: &str, body: &str) -> Result<Vec<u8>, Fail>;
-
-    /// The examples of this name.
-    fn examples(name: &str) -> &'static str;
 }
 
 /// An event comes: why it is refused, if it is.
-pub fn happens<S: Serves>(
+pub fn comes<S: Serves>(
     alloc: Global,
     served: &mut S,
-    word: &str,
-    id: u64,
-    rest: &[u8],
+    event: S::Event,
 ) -> Result<Option<String>, Fail> {
-    let event = S::event(alloc, word, id, rest)?;
     match served.on(&event) {
         Ok(()) => Ok(None),
         Err(fault) => Ok(Some(in_words(alloc, fault)?)),
     }
 }
 
-/// The test fails where an event that comes is refused.
-fn expect_done(refused: Option<String>) -> Result<(), Fail> {
-    match refused {
-        Some(why) => Err(Fail::new(why)),
-        None => Ok(()),
-    }
-}
-
-/// An event without more words comes.
-pub fn opens<S: Serves>(alloc: Global, served: &mut S, id: u64) -> Result<(), Fail> {
-    expect_done(happens(alloc, served, "open", id, b"")?)
-}
-
-/// Bytes come on a connection.
-pub fn comes<S: Serves>(alloc: Global, served: &mut S, id: u64, bytes: &[u8]) -> Result<(), Fail> {
-    expect_done(happens(alloc, served, "in", id, bytes)?)
-}
-
-/// A peer goes.
-pub fn goes<S: Serves>(alloc: Global, served: &mut S, id: u64) -> Result<(), Fail> {
-    expect_done(happens(alloc, served, "gone", id, b"")?)
-}
-
-/// A request comes in one piece, on a connection that opens.
-pub fn asks<S: Serves>(alloc: Global, served: &mut S, id: u64, request: &[u8]) -> Result<(), Fail> {
-    opens(alloc, served, id)?;
-    comes(alloc, served, id, request)
-}
-
-/// The next byte comes on a connection, on which nothing was written yet.
-pub fn comes_next<S: Serves>(alloc: Global, served: &mut S, id: u64, byte: u8) -> Result<(), Fail> {
-    if !served.wants(id) || !served.out(id).is_empty() {
-        return Err("written too early".into());
-    }
-    comes(alloc, served, id, &[byte])
+/// A connection opens: why that is refused, if it is.
+pub fn opens<S: Serves>(alloc: Global, served: &mut S, id: u64) -> Result<Option<String>, Fail> {
+    comes(alloc, served, S::event(alloc, "open", id, b"")?)
 }
 
 /// The bytes that are out on a connection, in one line; they are taken.

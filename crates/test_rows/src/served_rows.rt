@@ -4,15 +4,9 @@
 //! |---|---|
 //! | `open K`, `open A B` | a connection opens, or each from A to B |
 //! | `ask K METHOD TARGET BODY` | a request comes in one piece on K, which opens unless it waits |
-//! | `bytes K METHOD TARGET BODY` | it comes byte by byte, on K that waits, and nothing is written before the last |
-//! | `apart K METHOD TARGET BODY` | the same, and after each byte but the last a get of the target finds nothing (`pieces`) |
 //! | `in K TEXT`, `gone K`, `pump K N`, `tick MS`, `compact C` | the event |
 //! | `types 0 NAME` | the types of this file are served, or of this JSON value |
-//! | `told K METHOD TARGET BODY`, `got K METHOD TARGET BODY` | as `ask`; nothing without METHOD TARGET BODY |
 //! | `serve A B METHOD TARGET BODY` | on each from A to B, one after another: it opens, the request comes, its reply is taken |
-//! | `pumped A B N` | each from A to B may write so many lines: what each wrote, if that is the same |
-//! | `cut K TEXT` | bytes come in two pieces, wherever they are cut, on connections from K on (`pieces`) |
-//! | `fronts 0 EXAMPLES` | every prefix of what comes at each row of these examples comes (`pieces`) |
 //! | `out K` | no event; the bytes that are out on K are taken |
 //! | `take K N` | the next N of them are taken: how many are left |
 //! | `stand K` | no event: how many are out, whether K waits, whether it has ended |
@@ -20,15 +14,11 @@
 //! | `marked STEP` | the event of the step between the marks of refused memory; its answer counts where it isn't refused |
 //! | `else STEP`, `done STEP` | the step, where the last marked one was refused memory, or where it wasn't |
 //!
-//! The answer of an event is why it is refused, or the bytes that then are out on connection 1, which are taken; of an
-//! `ask` on another connection it is the status of its reply, which stays out. Of `in_words` it is the status of the reply on K, and
-//! its message or else the version of its object; of `got` the status and the body. The head of a reply, and the body of a
-//! refusal that has no details, must be those of its status (`replies`). Requests and replies are shown in one line (`texts`).
+//! The answer of an event is why it is refused, or the bytes that then are out on connection 1, which are taken; of an `ask` on
+//! another connection it is the status of its reply, which stays out. Requests and replies are shown in one line (`texts`).
 
 use crate::marking::mark;
-use crate::pieces::{comes_apart, comes_by_bytes, cut_anywhere, prefixes_of};
-use crate::replies::{reply_in_words, status_in_words};
-use crate::served::{Serves, asks, happens, received, request_of};
+use crate::served::{Serves, comes, opens, received, request_of};
 use crate::texts::bytes_of;
 use crate::words::{first_word, in_words, number};
 use std::alloc::{AllocError, Global};
@@ -37,25 +27,17 @@ use std::test::Fail;
 /// The event of a step.
 fn event_of<S: Serves>(alloc: Global, word: &str, id: u64, rest: &str) -> Result<S::Event, Fail> {
     match word {
-        "ask" | "told" | "got" => S::event(alloc, "in", id, &request_of::<S>(alloc, rest)?),
+        "ask" => S::event(alloc, "in", id, &request_of::<S>(alloc, rest)?),
         "in" => S::event(alloc, word, id, &bytes_of(alloc, rest)?),
         _ => S::event(alloc, word, id, rest.as_bytes()),
     }
 }
 
-/// The event of a step comes: why it is refused, if it is.
-fn steps<S: Serves>(
-    alloc: Global,
-    served: &mut S,
-    word: &str,
-    id: u64,
-    rest: &str,
-) -> Result<Option<String>, Fail> {
-    let event = event_of::<S>(alloc, word, id, rest)?;
-    match served.on(&event) {
-        Ok(()) => Ok(None),
-        Err(fault) => Ok(Some(in_words(alloc, fault)?)),
-    }
+/// The word, the number and the rest of a step.
+fn parts_of(step: &str) -> Result<(&str, u64, &str), Fail> {
+    let (word, rest) = first_word(step);
+    let (first, rest) = first_word(rest);
+    Ok((word, number(first)?, rest))
 }
 
 /// Opens each connection from one to another, up to one that is refused.
@@ -65,22 +47,44 @@ fn opens_all<S: Serves>(
     first: u64,
     last: u64,
 ) -> Result<Option<String>, Fail> {
-    let mut refused = None;
     for id in first..=last {
-        if refused.is_none() {
-            refused = happens(alloc, served, "open", id, b"")?;
+        let refused = opens(alloc, served, id)?;
+        if refused.is_some() {
+            return Ok(refused);
         }
     }
-    Ok(refused)
+    Ok(None)
 }
 
-/// Of the words `B METHOD TARGET BODY`: a request comes on each connection from one to B, and its reply is taken.
+/// The test fails where an event that comes is refused.
+fn expect_done(refused: Option<String>) -> Result<(), Fail> {
+    match refused {
+        Some(why) => Err(Fail::new(why)),
+        None => Ok(()),
+    }
+}
+
+/// A request comes in one piece on a connection that opens, and its reply is taken.
+fn serve_one<S: Serves>(
+    alloc: Global,
+    served: &mut S,
+    id: u64,
+    request: &[u8],
+) -> Result<(), Fail> {
+    expect_done(opens(alloc, served, id)?)?;
+    let event = S::event(alloc, "in", id, request)?;
+    expect_done(comes(alloc, served, event)?)?;
+    served.take(id, usize::MAX);
+    Ok(())
+}
+
+/// Of the words `B METHOD TARGET BODY`: a request is served on each connection from one to B.
 fn serves<S: Serves>(alloc: Global, served: &mut S, first: u64, rest: &str) -> Result<(), Fail> {
     let (last, line) = first_word(rest);
+    let last = number(last)?;
     let request = request_of::<S>(alloc, line)?;
-    for id in first..=number(last)? {
-        asks(alloc, served, id, &request)?;
-        served.take(id, usize::MAX);
+    for id in first..=last {
+        serve_one(alloc, served, id, &request)?;
     }
     Ok(())
 }
@@ -96,21 +100,18 @@ fn acts<S: Serves>(
 ) -> Result<Option<String>, Fail> {
     match word {
         "out" | "take" | "stand" | "kept" => return Ok(None),
-        "told" | "got" if rest.is_empty() => return Ok(None),
-        "ask" | "told" | "got" => {
-            happens(alloc, served, "open", id, b"")?;
-        }
-        "bytes" => comes_by_bytes(alloc, served, id, rest)?,
-        "apart" => comes_apart(alloc, served, id, rest)?,
-        "fronts" => prefixes_of(alloc, served, S::examples(rest))?,
-        "serve" => serves(alloc, served, id, rest)?,
         "open" if !rest.is_empty() => return opens_all(alloc, served, id, number(rest)?),
+        "serve" => {
+            serves(alloc, served, id, rest)?;
+            return Ok(None);
+        }
+        "ask" => {
+            opens(alloc, served, id)?;
+        }
         _ => {}
     }
-    match word {
-        "bytes" | "apart" | "fronts" | "serve" => Ok(None),
-        _ => steps(alloc, served, word, id, rest),
-    }
+    let event = event_of::<S>(alloc, word, id, rest)?;
+    comes(alloc, served, event)
 }
 
 /// Takes bytes that are out on a connection: how many are left.
@@ -131,6 +132,12 @@ fn kept<S: Serves>(alloc: Global, served: &S) -> Result<String, Fail> {
     Ok(format!(in alloc; "{held} {ranges}")?)
 }
 
+/// The status of a reply, or `-`.
+fn status_of(alloc: Global, reply: &[u8]) -> Result<String, Fail> {
+    let status = str::from_utf8(reply.get(9..12).unwrap_or(b"-"))?;
+    Ok(String::from_str(alloc, status)?)
+}
+
 /// What is seen behind a step.
 fn seen<S: Serves>(
     alloc: Global,
@@ -144,50 +151,13 @@ fn seen<S: Serves>(
         "take" => taken(alloc, served, id, rest),
         "stand" => standing(alloc, served, id),
         "kept" => kept(alloc, served),
-        "told" | "got" => reply_in_words(
-            alloc,
-            received(alloc, served, id)?.as_str(),
-            word == "got",
-        ),
-        "ask" if id != 1 => status_in_words(alloc, served.out(id)),
+        "ask" if id != 1 => status_of(alloc, served.out(id)),
         _ => received(alloc, served, 1),
     }
 }
 
-/// Watches are pumped, from one to another, each for so many lines: what each wrote, if that is the same.
-fn pumped<S: Serves>(
-    alloc: Global,
-    served: &mut S,
-    first: u64,
-    words: &str,
-) -> Result<String, Fail> {
-    let (last, lines) = first_word(words);
-    let mut answer = String::new(alloc);
-    for id in first..=number(last)? {
-        happens(alloc, served, "pump", id, lines.as_bytes())?;
-        let next = received(alloc, served, id)?;
-        if id != first && next.as_str() != answer.as_str() {
-            return Err(Fail::new(format!(in alloc; "{id} wrote {next}")?));
-        }
-        answer = next;
-    }
-    Ok(answer)
-}
-
-/// The word, the number and the rest of a step.
-fn parts_of(step: &str) -> Result<(&str, u64, &str), Fail> {
-    let (word, rest) = first_word(step);
-    let (first, rest) = first_word(rest);
-    Ok((word, number(first)?, rest))
-}
-
 fn answer_to<S: Serves>(alloc: Global, served: &mut S, step: &str) -> Result<String, Fail> {
     let (word, id, rest) = parts_of(step)?;
-    match word {
-        "cut" => return cut_anywhere(alloc, served, id, &bytes_of(alloc, rest)?),
-        "pumped" => return pumped(alloc, served, id, rest),
-        _ => {}
-    }
     match acts(alloc, served, word, id, rest)? {
         None => seen(alloc, served, word, id, rest),
         Some(why) => Ok(why),
@@ -198,10 +168,10 @@ fn answer_to<S: Serves>(alloc: Global, served: &mut S, step: &str) -> Result<Str
 fn marked<S: Serves>(
     alloc: Global,
     served: &mut S,
-    event: &S::Event,
+    event: S::Event,
 ) -> Result<Result<(), S::Fault>, AllocError> {
     mark(alloc)?;
-    let done = served.on(event);
+    let done = served.on(&event);
     mark(alloc)?;
     Ok(done)
 }
@@ -214,7 +184,7 @@ fn marked_answer_to<S: Serves>(
 ) -> Result<Option<String>, Fail> {
     let (word, id, rest) = parts_of(step)?;
     let event = event_of::<S>(alloc, word, id, rest)?;
-    let Err(fault) = marked(alloc, served, &event)? else {
+    let Err(fault) = marked(alloc, served, event)? else {
         return Ok(Some(seen(alloc, served, word, id, rest)?));
     };
     let why = in_words(alloc, fault)?;

@@ -18,7 +18,7 @@ fn push_unfolded(all: &mut String, part: &str) -> Result<(), Fail> {
 }
 
 /// The bytes that a text in one line shows, but for the byte 1 and repeated texts.
-pub fn plain_bytes(alloc: Global, text: &str) -> Result<Vec<u8>, AllocError> {
+fn plain_bytes(alloc: Global, text: &str) -> Result<Vec<u8>, AllocError> {
     let text = text.replace(alloc, '|', "\r")?;
     let text = text.as_str().replace(alloc, '$', "\n")?;
     Ok(text.into_bytes())
@@ -41,11 +41,4 @@ pub fn line_of(alloc: Global, bytes: &[u8]) -> Result<String, Fail> {
     }
     let text = str::from_utf8(bytes)?.replace(alloc, '\r', "|")?;
     Ok(text.as_str().replace(alloc, '\n', "$")?)
-}
-
-/// What stands between two texts, behind the last of the first.
-pub fn between<'a>(text: &'a str, before: &str, after: &str) -> Option<&'a str> {
-    let (_, rest) = text.rsplit_once(before)?;
-    let (found, _) = rest.split_once(after)?;
-    Some(found)
 }

@@ -1,42 +1,25 @@
 //! What a run is asked for.
 
 use crate::indexes::{ByLabel, ByNamespace};
+use crate::links::Noting;
 use api_types::Types;
 use indexer::IndexBy;
 use serde_json::Value;
 use std::alloc::{AllocError, Global};
 use std::test::Fail;
-use test_rows::first_word;
+use test_rows::{first_word, number};
 use world::Settings;
 
 /// Widgets, with each kind of list, and label summaries.
 const TYPES: &str =
     r#"{"types":[{"group":"demo.example","version":"v1","kind":"Widget","plural":"widgets","schema":{"type":"object","properties":{"spec":{"type":"object","properties":{"args":{"type":"array","items":{"type":"string"}},"config":{"type":"object","additionalProperties":{"type":"string"}},"image":{"type":"string"},"ports":{"type":"array","x-kubernetes-list-type":"map","x-kubernetes-list-map-keys":["name"],"items":{"type":"object","properties":{"name":{"type":"string"},"note":{"type":"string"},"port":{"type":"integer"}}}},"replicas":{"type":"integer"},"tags":{"type":"array","x-kubernetes-list-type":"set","items":{"type":"string"}}}}}}},{"group":"summary.example","version":"v1","kind":"LabelSummary","plural":"labelsummaries","schema":{"type":"object","properties":{"spec":{"type":"object","properties":{"counts":{"type":"object","additionalProperties":{"type":"integer"}},"label":{"type":"string"},"total":{"type":"integer"}}}}}}]}"#;
 
-/// The same, but that the list of ports has become atomic.
-pub const PORTS_ATOMIC: &str =
-    r#"{"types":[{"group":"demo.example","version":"v1","kind":"Widget","plural":"widgets","schema":{"type":"object","properties":{"spec":{"type":"object","properties":{"args":{"type":"array","items":{"type":"string"}},"config":{"type":"object","additionalProperties":{"type":"string"}},"image":{"type":"string"},"ports":{"type":"array","x-kubernetes-list-type":"atomic","items":{"type":"object","properties":{"name":{"type":"string"},"note":{"type":"string"},"port":{"type":"integer"}}}},"replicas":{"type":"integer"},"tags":{"type":"array","x-kubernetes-list-type":"set","items":{"type":"string"}}}}}}},{"group":"summary.example","version":"v1","kind":"LabelSummary","plural":"labelsummaries","schema":{"type":"object","properties":{"spec":{"type":"object","properties":{"counts":{"type":"object","additionalProperties":{"type":"integer"}},"label":{"type":"string"},"total":{"type":"integer"}}}}}}]}"#;
-
-/// Widgets alone.
-const WIDGETS: &str =
-    r#"{"types":[{"group":"demo.example","version":"v1","kind":"Widget","plural":"widgets","schema":{"type":"object","properties":{"spec":{"type":"object","properties":{"image":{"type":"string"}}}}}}]}"#;
-
-/// Widgets, and label summaries whose counts are texts.
-const COUNTS_OF_TEXTS: &str =
-    r#"{"types":[{"group":"demo.example","version":"v1","kind":"Widget","plural":"widgets","schema":{"type":"object","properties":{"spec":{"type":"object","properties":{"image":{"type":"string"}}}}}},{"group":"summary.example","version":"v1","kind":"LabelSummary","plural":"labelsummaries","schema":{"type":"object","properties":{"spec":{"type":"object","properties":{"counts":{"type":"object","additionalProperties":{"type":"string"}},"label":{"type":"string"},"total":{"type":"integer"}}}}}}]}"#;
-
-/// Of the word `types=`. Without it: widgets and label summaries.
-pub fn types(alloc: Global, words: &str) -> Result<Types, Fail> {
-    let text = match value_of(words, "types=", "") {
-        "widgets" => WIDGETS,
-        "texts" => COUNTS_OF_TEXTS,
-        _ => TYPES,
-    };
-    Ok(Types::read(alloc, &Value::from_str(alloc, text)?)?)
+pub fn types(alloc: Global) -> Result<Types, Fail> {
+    Ok(Types::read(alloc, &Value::from_str(alloc, TYPES)?)?)
 }
 
 /// What stands behind the name in words `NAME=VALUE ..`, or what stands for it.
-pub fn value_of<'a>(words: &'a str, name: &str, otherwise: &'a str) -> &'a str {
+fn value_of<'a>(words: &'a str, name: &str, otherwise: &'a str) -> &'a str {
     match words.split_once(name) {
         Some((_, rest)) => first_word(rest).0,
         None => otherwise,
@@ -93,4 +76,12 @@ pub fn indexes(alloc: Global, words: &str) -> Result<Vec<Box<dyn IndexBy>>, Allo
         all.push(index(alloc, name)?)?;
     }
     Ok(all)
+}
+
+/// Of the word `link=N`: a link that carries N pieces; without it, as many as come.
+pub fn linked(alloc: Global, words: &str) -> Result<Noting, Fail> {
+    Ok(Noting {
+        left: number(value_of(words, "link=", "18446744073709551615"))?,
+        carried: Vec::new(alloc),
+    })
 }

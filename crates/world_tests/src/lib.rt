@@ -1,12 +1,8 @@
-//! Tests of a server and a client in one run, by public calls alone: rows of text that one type plays (`playing`).
+//! Tests of what only linked calls show of a server and a client in one run: boxed indexes, links that fail, settings and
+//! counts that no program is given, moves up to a bound, and refused memory. What the programs come to is in `tests/` at the
+//! top.
 #![tactic(auto)]
 
-#[cfg(test)]
-mod catching_up;
-#[cfg(test)]
-mod cutting;
-#[cfg(test)]
-mod drawn;
 #[cfg(test)]
 mod events;
 #[cfg(test)]
@@ -17,8 +13,6 @@ mod indexes;
 mod links;
 #[cfg(test)]
 mod playing;
-#[cfg(test)]
-mod premises;
 #[cfg(test)]
 mod rows;
 #[cfg(test)]

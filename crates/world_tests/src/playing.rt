@@ -1,80 +1,34 @@
-//! A type that answers rows. Each example begins with `from WORDS`: the types, settings and indexes of a run (`given`), where
-//! `<N TEXT>` is TEXT so many times, and with `link=N` one whose bytes go over a link that carries N pieces. The other questions:
+//! A type that answers rows. What is asked is `WORD LOOKED SETTINGS: EVENTS`, of a run of its own: its settings, indexes and
+//! link are those of `given`, its events those of `events`.
 //!
 //! | question | answer |
 //! |---|---|
-//! | events with `; ` between them (`events`) | the reports of these, or why the run ended |
-//! | `anew` and events | the same of a run between the marks of refused memory; where it was refused, of another one |
-//! | `connection K` | what was written on it |
-//! | `written K` | how many bytes were written on each connection from K |
-//! | `reports` | all reports since `from` |
-//! | `requested` | the connections of requests of other peers |
-//! | `index EVENT NAME` | the index of this name in the report of this event, each key with the objects that have it |
-//! | `text NAME` | the text of the object in the last report |
-//! | `carried` | the targets of the client's requests that the link carried |
-//! | `moves N` | no event; at most N moves of a world of its own after the events since `from`, by which its client comes to the current revision, and their reports: `MOVES -> REPORTS` (`catching_up`) |
-//! | `cuts WORD M N FRONT <- BACK` | no event; of runs of their own: the reports behind the events of FRONT, with `WORD M` to `WORD N` between these and those of BACK, each where it first comes (`cutting`) |
-//! | `fronts EXAMPLES` | no event; every prefix of each request of these examples comes, in runs of their own: how many different requests there are (`cutting`) |
+//! | `run IDS ..` | the reports, and what was written on these connections (`-` for none): `REPORTS / BYTES / ..`; or why the run ended |
+//! | `anew IDS ..` | the same of a run between the marks of refused memory, where it was refused of another one; before it the connections of other peers' requests |
+//! | `length ID ..` | how many bytes were written on the connection |
+//! | `indexes - ..` | the indexes in the last report |
+//! | `carried - ..` | the targets of the client's requests that the link carried |
+//! | `moves N ..` | at most N moves behind the events, by which the client comes to the current revision, and their reports: `MOVES -> REPORTS` |
 //!
-//! All events since `from` are run anew with each row. A report is `EVENT REVISION [OBJECT@REVISION ..] {VALUE=COUNT ..}`,
-//! the event by its place among all, the object with its namespace before it where that isn't `default`. Bytes have `|`
-//! for a carriage return and `$` for a line feed; where nothing is to be shown it is `-`.
+//! A report is `EVENT REVISION [OBJECT ..] {VALUE: COUNT, ..}`, the event by its place, an object `NAMESPACE/NAME@REVISION`.
+//! Bytes have `|` for a carriage return and `$` for a line feed; where nothing is to be shown it is `-`.
 
-use crate::catching_up::moves;
-use crate::cutting::{cuts, prefixes};
-use crate::events::{events, unfolded};
-use crate::given::{indexes, settings, types, value_of};
+use crate::events::events;
+use crate::given::{indexes, linked, settings, types};
 use crate::links::Noting;
-use crate::shown::{index, lengths, reports_after, requested, targets, text_of, written};
+use crate::shown::{length, moves_and_reports, targets, told};
+use indexer::IndexBy;
 use std::alloc::Global;
+use std::mem;
 use std::test::Fail;
-use test_rows::{Answers, first_word, in_words, mark, number};
-use world::{Trace, WorldEvent, WorldFault, run, run_over};
+use test_rows::{Answers, bytes_of, first_word, in_words, mark, number};
+use world::{OverMemory, Trace, World, WorldEvent, WorldFault, run, run_over};
 
 #[derive(Drop)]
-pub struct Play {
-    words: String,
-    steps: String,
-    count: usize,
-    trace: Option<Trace>,
-    link: Noting,
-}
+pub struct Play;
 
-/// Over memory.
-pub fn ran(
-    alloc: Global,
-    words: &str,
-    all: &[WorldEvent],
-) -> Result<Result<Trace, WorldFault>, Fail> {
-    Ok(run(
-        alloc,
-        types(alloc, words)?,
-        settings(alloc, words)?,
-        indexes(alloc, words)?,
-        all,
-    ))
-}
-
-/// Over memory, between the marks of refused memory; where it was refused, once more.
-fn ran_anew(
-    alloc: Global,
-    words: &str,
-    all: &[WorldEvent],
-) -> Result<Result<Trace, WorldFault>, Fail> {
-    let types = types(alloc, words)?;
-    let settings = settings(alloc, words)?;
-    let indexes = indexes(alloc, words)?;
-    mark(alloc)?;
-    let trace = run(alloc, types, settings, indexes, all);
-    mark(alloc)?;
-    match trace {
-        Err(WorldFault::Memory | WorldFault::Store) => ran(alloc, words, all),
-        trace => Ok(trace),
-    }
-}
-
-/// Over a link that carries so many pieces more.
-fn ran_over(
+/// Over a link.
+fn ran(
     alloc: Global,
     words: &str,
     all: &[WorldEvent],
@@ -82,7 +36,7 @@ fn ran_over(
 ) -> Result<Result<Trace, WorldFault>, Fail> {
     Ok(run_over(
         alloc,
-        types(alloc, words)?,
+        types(alloc)?,
         settings(alloc, words)?,
         indexes(alloc, words)?,
         all,
@@ -90,98 +44,106 @@ fn ran_over(
     ))
 }
 
-fn played(
+/// Over memory, between the marks of refused memory.
+fn ran_marked(
     alloc: Global,
     words: &str,
     all: &[WorldEvent],
-    link: &mut Noting,
 ) -> Result<Result<Trace, WorldFault>, Fail> {
-    let pieces = value_of(words, "link=", "-");
-    if pieces == "-" {
-        return ran(alloc, words, all);
-    }
-    link.left = number(pieces)?;
-    link.carried = Vec::new(alloc);
-    ran_over(alloc, words, all, link)
+    let types = types(alloc)?;
+    let settings = settings(alloc, words)?;
+    let indexes = indexes(alloc, words)?;
+    mark(alloc)?;
+    let trace = run(alloc, types, settings, indexes, all);
+    mark(alloc)?;
+    Ok(trace)
 }
 
-impl Play {
-    pub fn new(alloc: Global) -> Play {
-        Play {
-            words: String::new(alloc),
-            steps: String::new(alloc),
-            count: 0,
-            trace: None,
-            link: Noting {
-                left: 0,
-                carried: Vec::new(alloc),
-            },
+/// The same; where memory was refused, of another run.
+fn anew(alloc: Global, words: &str, all: &[WorldEvent], ids: &str) -> Result<String, Fail> {
+    let trace = match ran_marked(alloc, words, all)? {
+        Err(WorldFault::Memory | WorldFault::Store) => {
+            ran(alloc, words, all, &mut linked(alloc, words)?)?
         }
-    }
-
-    /// Runs all events: the reports of those that came since the last run.
-    fn runs(&mut self, alloc: Global, is_marked: bool) -> Result<String, Fail> {
-        let all = events(alloc, self.steps.as_str())?;
-        let before = self.count;
-        self.count = all.len();
-        let ran = if is_marked {
-            ran_anew(alloc, self.words.as_str(), &all)?
-        } else {
-            played(alloc, self.words.as_str(), &all, &mut self.link)?
-        };
-        match ran {
-            Ok(trace) => {
-                let text = reports_after(alloc, &trace, before)?;
-                self.trace = Some(trace);
-                Ok(text)
-            }
-            Err(fault) => in_words(alloc, fault),
-        }
-    }
-
-    fn begins(&mut self, alloc: Global, words: &str) -> Result<String, Fail> {
-        self.words = unfolded(alloc, words)?;
-        self.steps = String::new(alloc);
-        self.count = 0;
-        self.trace = None;
-        self.runs(alloc, false)
-    }
-
-    fn goes_on(&mut self, alloc: Global, steps: &str, is_marked: bool) -> Result<String, Fail> {
-        if !self.steps.is_empty() {
-            self.steps.push_str("; ")?;
-        }
-        self.steps.push_str(steps)?;
-        self.runs(alloc, is_marked)
-    }
+        trace => trace,
+    };
+    let trace = trace?;
+    let told = told(alloc, &trace, ids)?;
+    let requested = &trace.requested;
+    Ok(format!(in alloc; "{requested:?} {told}")?)
 }
 
-fn shown(alloc: Global, trace: &Trace, word: &str, rest: &str) -> Result<String, Fail> {
+fn take_all<I: IndexBy>(world: &mut World<I>, all: &[WorldEvent]) -> Result<(), Fail> {
+    for (index, event) in all.iter().enumerate() {
+        world.step(index + 1, event, &mut OverMemory)?;
+    }
+    Ok(())
+}
+
+fn moved<I: IndexBy>(
+    alloc: Global,
+    world: &mut World<I>,
+    all: &[WorldEvent],
+    most: &str,
+) -> Result<String, Fail> {
+    take_all(world, all)?;
+    let most = all.len().saturating_add(number(most)? as usize);
+    let made = world.run_until_current(all.len(), most, &mut OverMemory)?;
+    moves_and_reports(alloc, &made)
+}
+
+/// The world isn't dropped.
+fn moves(alloc: Global, words: &str, all: &[WorldEvent], most: &str) -> Result<String, Fail> {
+    let settings = settings(alloc, words)?;
+    let mut world = World::new(alloc, types(alloc)?, settings, indexes(alloc, words)?)?;
+    let told = moved(alloc, &mut world, all, most);
+    mem::forget(world);
+    told
+}
+
+fn shown(
+    alloc: Global,
+    word: &str,
+    looked: &str,
+    trace: &Trace,
+    link: &Noting,
+) -> Result<String, Fail> {
     match word {
-        "connection" => written(alloc, trace, number(rest)?),
-        "written" => Ok(lengths(alloc, trace, number(rest)?)?),
-        "reports" => Ok(reports_after(alloc, trace, 0)?),
-        "requested" => Ok(requested(alloc, trace)?),
-        "index" => index(alloc, trace, rest),
-        _ => text_of(alloc, trace, rest),
+        "length" => length(alloc, trace, looked),
+        "carried" => targets(alloc, &link.carried),
+        "indexes" => {
+            let report = trace.reports.last().ok_or("no report")?;
+            in_words(alloc, &report.indexes)
+        }
+        _ => told(alloc, trace, looked),
+    }
+}
+
+fn looked_at(
+    alloc: Global,
+    words: &str,
+    all: &[WorldEvent],
+    word: &str,
+    looked: &str,
+) -> Result<String, Fail> {
+    let mut link = linked(alloc, words)?;
+    match ran(alloc, words, all, &mut link)? {
+        Ok(trace) => shown(alloc, word, looked, &trace, &link),
+        Err(fault) => in_words(alloc, fault),
     }
 }
 
 impl Answers for Play {
     fn answer(&mut self, alloc: Global, question: &str) -> Result<String, Fail> {
-        let (word, rest) = first_word(question);
+        let (asked, steps) = question.split_once(": ").unwrap_or((question, ""));
+        let (word, rest) = first_word(asked);
+        let (looked, words) = first_word(rest);
+        let words = String::from_utf8(bytes_of(alloc, words)?).map_err(|_| "no text")?;
+        let all = events(alloc, steps)?;
         match word {
-            "from" => self.begins(alloc, rest),
-            "connection" | "written" | "reports" | "requested" | "index" | "text" => {
-                let trace = self.trace.as_ref().ok_or("nothing was run")?;
-                shown(alloc, trace, word, rest)
-            }
-            "carried" => targets(alloc, &self.link.carried),
-            "anew" => self.goes_on(alloc, rest, true),
-            "moves" => moves(alloc, self.words.as_str(), self.steps.as_str(), rest),
-            "cuts" => cuts(alloc, self.words.as_str(), rest),
-            "fronts" => prefixes(alloc, rest),
-            _ => self.goes_on(alloc, question, false),
+            "moves" => moves(alloc, words.as_str(), &all, looked),
+            "anew" => anew(alloc, words.as_str(), &all, looked),
+            _ => looked_at(alloc, words.as_str(), &all, word, looked),
         }
     }
 }

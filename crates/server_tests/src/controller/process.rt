@@ -1,13 +1,11 @@
 //! A server of widgets and an informer of them, in one process. What a controller does with it stands in `controller`.
 
-use api_types::Types;
+use crate::given::fresh_api;
 use httpedge::{Event, Hub};
 use indexer::{IndexBy, Indexer, Object};
 use reflector::{Informer, Notice, Source};
-use serde_json::Value;
 use std::alloc::{AllocError, Global};
 use std::test::Fail;
-use verbs::Api;
 
 const TYPES: &str =
     r#"{"types":[{"group":"demo.example","version":"v1","kind":"Widget","plural":"widgets","schema":{"type":"object","properties":{"spec":{"type":"object","properties":{"image":{"type":"string"}}}}}}]}"#;
@@ -62,10 +60,9 @@ impl Process {
     /// Without objects.
     pub fn new(alloc: Global) -> Result<Process, Fail> {
         let informer = informer(alloc)?;
-        let types = Types::read(alloc, &Value::from_str(alloc, TYPES)?)?;
         Ok(Process {
             alloc,
-            hub: Hub::new(alloc, Api::new(alloc, types)?),
+            hub: Hub::new(alloc, fresh_api(alloc, TYPES)?),
             informer,
             connection: 0,
         })

@@ -1,14 +1,10 @@
-//! What several tests are given: an API of widgets, requests, and the replies that they get. Streams over memory stand
+//! What several tests are given: requests over an API of widgets, and the replies that they get. Streams over memory stand
 //! in `over_memory`.
 
-use crate::given::WIDGET_TYPES;
-use api_types::Types;
-use serde_json::Value;
 use std::alloc::Global;
 use std::io::{ErrorKind, Read, Write};
 use std::net::{SocketAddr, TcpStream};
 use std::test::Fail;
-use verbs::Api;
 
 /// The list of all widgets.
 pub const LIST: &str = "GET /apis/demo.example/v1/widgets HTTP/1.1\r\nHost: localhost\r\n\r\n";
@@ -48,15 +44,6 @@ pub const BEFORE: &str =
 pub const EXPIRED: &str =
     "HTTP/1.1 410 Gone\r\nContent-Type: application/json\r\nContent-Length: 142\r\nConnection: close\r\n\r\n{\"apiVersion\":\"v1\",\"code\":410,\"kind\":\"Status\",\"message\":\"too old resource version: 1 (2)\",\"metadata\":{},\"reason\":\"Expired\",\"status\":\"Failure\"}";
 
-pub fn widget_types(alloc: Global) -> Result<Types, Fail> {
-    Ok(Types::read(alloc, &Value::from_str(alloc, WIDGET_TYPES)?)?)
-}
-
-/// An API of widgets without objects.
-pub fn fresh_api(alloc: Global) -> Result<Api, Fail> {
-    Ok(Api::new(alloc, widget_types(alloc)?)?)
-}
-
 /// A connection over loopback that has sent this.
 pub fn sent(rt: &HostRuntime, addr: SocketAddr, text: &str) -> Result<TcpStream, Fail> {
     let mut stream = TcpStream::connect(rt, addr)?;
@@ -65,7 +52,7 @@ pub fn sent(rt: &HostRuntime, addr: SocketAddr, text: &str) -> Result<TcpStream,
 }
 
 /// What a stream gives behind its text.
-#[derive(Clone, Copy, Debug)]
+#[derive(Clone, Copy)]
 pub enum End {
     /// Its end.
     Comes,

@@ -1,8 +1,9 @@
 //! A client over loopback, within this process, of a server that serves one connection after another: each connection that
-//! it dials is served before its reply is read, and then what others write. Replies by hand are told in `store_client_tests`.
+//! it dials is served before its reply is read, and then what others write. Replies by hand are told in `client_tests`.
 
-use crate::streams::given::{APPLY, fresh_api, widget_types};
-use mirror_program::{Loopback, MirrorOptions, ProgramFault, print_changes};
+use crate::given::{WIDGET_TYPES, fresh_api, types_of};
+use crate::streams::given::APPLY;
+use mirror_program::{Loopback, MirrorOptions, print_changes};
 use mirroring::Dial;
 use observing::Unobserved;
 use programs::Resource;
@@ -61,8 +62,8 @@ impl<'a> Dial for Beside<'a> {
     }
 }
 
-/// All widgets, over so many connections to this port.
-fn all_widgets<'a>(port: u16, turns: u64) -> MirrorOptions<'a> {
+/// All widgets, over three connections to this port.
+fn all_widgets<'a>(port: u16) -> MirrorOptions<'a> {
     MirrorOptions {
         types: "types.json",
         port,
@@ -74,7 +75,7 @@ fn all_widgets<'a>(port: u16, turns: u64) -> MirrorOptions<'a> {
         namespace: None,
         selector: "",
         page: 500,
-        turns,
+        turns: 3,
     }
 }
 
@@ -85,6 +86,7 @@ fn printed(
     server: &mut Server<TcpStream>,
 ) -> Result<Vec<u8>, Fail> {
     let port = listener.local_addr()?.port();
+    let types = types_of(rt.alloc(), WIDGET_TYPES)?;
     let mut dialer = Beside {
         rt,
         dialer: Loopback::new(rt, port),
@@ -93,11 +95,10 @@ fn printed(
         writes: &[None, Some(APPLY), Some(DELETE)],
     };
     let mut out = Vec::new(rt.alloc());
-    let types = widget_types(rt.alloc())?;
     let done = print_changes(
         rt.alloc(),
         &types,
-        &all_widgets(port, 3),
+        &all_widgets(port),
         &mut dialer,
         &mut out,
     );
@@ -113,7 +114,7 @@ fn mirror_beside_writes(rt: HostRuntime) -> Result<(), Fail> {
         keep: 1000,
         lines: 500,
     };
-    let mut server = Server::new(rt.alloc(), fresh_api(rt.alloc())?, limits);
+    let mut server = Server::new(rt.alloc(), fresh_api(rt.alloc(), WIDGET_TYPES)?, limits);
     let printed = printed(&rt, &listener, &mut server);
     mem::forget(server);
     let text = "synced 1\nadded default/w1 2\ndeleted default/w1 2\n";
@@ -121,25 +122,4 @@ fn mirror_beside_writes(rt: HostRuntime) -> Result<(), Fail> {
         return Err(Fail::from("another text was printed"));
     }
     Ok(())
-}
-
-/// Where nothing listens on the port, a mirror ends at once with status 6.
-#[test]
-fn no_server_on_the_port(rt: HostRuntime) -> Result<(), Fail> {
-    let listener = TcpListener::bind(&rt, SocketAddr::from((Ipv4Addr::LOCALHOST, 0)))?;
-    let port = listener.local_addr()?.port();
-    drop(listener);
-    let mut out = Vec::new(rt.alloc());
-    let types = widget_types(rt.alloc())?;
-    let mut dialer = Loopback::new(&rt, port);
-    match print_changes(
-        rt.alloc(),
-        &types,
-        &all_widgets(port, 1),
-        &mut dialer,
-        &mut out,
-    ) {
-        Err(ProgramFault::Run(fault)) if fault.status() == 6 && out.is_empty() => Ok(()),
-        _ => Err(Fail::from("another end")),
-    }
 }

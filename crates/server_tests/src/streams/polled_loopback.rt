@@ -8,8 +8,9 @@
 //! | `turn`, `serve N` | the server has a turn; it has turns until so many connections have ended |
 //! | `hear K TEXT` | nothing: K gets this, and its end but where it is a watch |
 
+use crate::given::{WIDGET_TYPES, fresh_api};
 use crate::streams::given::{
-    ADDED, APPLY, End, HALF, LIST, NO_ITEMS, OVERTAKEN, WATCH, expect_received, fresh_api, sent,
+    ADDED, APPLY, End, HALF, LIST, NO_ITEMS, OVERTAKEN, WATCH, expect_received, sent,
 };
 use observing::Unobserved;
 use polling::{Options, Server};
@@ -83,7 +84,7 @@ fn play(rt: &HostRuntime, keep: u64, patience: u64, rows: &str) -> Result<(), Fa
         lines: 500,
         patience,
     };
-    let mut server = Server::listen(rt, fresh_api(rt.alloc())?, options)?;
+    let mut server = Server::listen(rt, fresh_api(rt.alloc(), WIDGET_TYPES)?, options)?;
     let played = play_rows(rt, &mut server, rows);
     mem::forget(server);
     played

@@ -1,9 +1,8 @@
 //! Turns over memory, of connections one after another and of many at once: a stream that is cut, has no room or fails
 //! changes no byte of another connection. Sockets are tested in `loopback` and `polled_loopback`.
 
-use crate::streams::given::{
-    ADDED, APPLY, CREATED, HALF, LIST, NO_ITEMS, WATCH, expect, fresh_api,
-};
+use crate::given::{WIDGET_TYPES, fresh_api};
+use crate::streams::given::{ADDED, APPLY, CREATED, HALF, LIST, NO_ITEMS, WATCH, expect};
 use crate::streams::over_memory::{MOST, Memory, PLENTY};
 use httpedge::{Event, Hub, HubFault};
 use observing::Unobserved;
@@ -23,7 +22,7 @@ fn open(hub: &mut Hub, id: u64) -> Result<(), HubFault> {
 }
 
 /// What a peer is asked for.
-#[derive(Clone, Copy, Debug)]
+#[derive(Clone, Copy)]
 enum Turn {
     /// Its stream is read and written.
     Look,
@@ -147,11 +146,11 @@ fn waiting_watch<'a>(
 }
 
 fn watch_without_room(rt: &HostRuntime, hub: &mut Hub) -> Result<(), Fail> {
+    open(hub, 1)?;
+    let now = Instant::now(rt)?;
     let mut stream = Memory::new(rt.alloc(), WATCH.as_bytes(), b"");
     stream.room = 10;
-    open(hub, 1)?;
-    let mut peer = Peer::new(stream, Instant::now(rt)?);
-    waiting_watch(rt, hub, &mut peer)
+    waiting_watch(rt, hub, &mut Peer::new(stream, now))
 }
 
 /// A connection asks, over a stream that fails once it was read so often.
@@ -207,12 +206,12 @@ fn expect_all_in_words(
     writes: usize,
     most: usize,
 ) -> Result<(), Fail> {
+    open(hub, 1)?;
+    open(hub, 2)?;
     let now = Instant::now(rt)?;
     let mut failing = Peer::new(Memory::new(rt.alloc(), WATCH.as_bytes(), b""), now);
     let mut watch = Peer::new(Memory::new(rt.alloc(), WATCH.as_bytes(), b""), now);
     failing.stream.writes = writes;
-    open(hub, 1)?;
-    open(hub, 2)?;
     let _ = failing.look(rt.alloc(), hub, &mut Unobserved, 1, now);
     let _ = watch.look(rt.alloc(), hub, &mut Unobserved, 2, now);
     let apply = Memory::new(rt.alloc(), APPLY.as_bytes(), b"");
@@ -226,7 +225,7 @@ fn expect_all_in_words(
 }
 
 /// What a fresh hub is tried by.
-#[derive(Clone, Copy, Debug)]
+#[derive(Clone, Copy)]
 enum Trial {
     Cuts,
     Room,
@@ -256,7 +255,7 @@ fn tried_on(rt: &HostRuntime, hub: &mut Hub, trial: Trial) -> Result<(), Fail> {
 
 /// Tries a hub of its own. It is not dropped, and no other function holds one: one that drops a hub takes a minute to prove.
 fn tried(rt: &HostRuntime, trial: Trial) -> Result<(), Fail> {
-    let mut hub = Hub::new(rt.alloc(), fresh_api(rt.alloc())?);
+    let mut hub = Hub::new(rt.alloc(), fresh_api(rt.alloc(), WIDGET_TYPES)?);
     let tried = tried_on(rt, &mut hub, trial);
     mem::forget(hub);
     tried
