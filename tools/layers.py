@@ -134,7 +134,7 @@ ROWS = (
         ),
         Box(
             "Lists and watches",
-            ("watchline", "lists", "params", "selector"),
+            ("watchline", "lists", "answers", "params", "selector"),
             "The pages of a list, joined, are the list at its revision.",
             (4, 8),
         ),
@@ -148,7 +148,14 @@ ROWS = (
     (
         Box(
             "Texts",
-            ("fieldpath", "json_texts", "json_values", "names"),
+            (
+                "fieldpath",
+                "json_patch",
+                "json_texts",
+                "json_values",
+                "system_metadata",
+                "names",
+            ),
             "The text of a path's element stands for one element.",
             (0, 4),
         ),
