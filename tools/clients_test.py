@@ -71,16 +71,18 @@ def python_steps() -> Iterator[Step]:
 
 def go_steps(room: str) -> Iterator[Step]:
     missing = "" if shutil.which("go") and shutil.which("gofmt") else "golang-go isn't installed"
-    sources = [os.path.join(folder, name) for folder in (GO, f"{TOP}/examples/reconcile_go") for name in sorted(os.listdir(folder))
-               if name.endswith(".go")]
+    first = f"{TOP}/examples/ten_minutes/go"
+    sources = [os.path.join(folder, name) for folder in (GO, f"{TOP}/examples/reconcile_go", first, f"{first}/testdata")
+               for name in sorted(os.listdir(folder)) if name.endswith(".go")]
     yield Step("the form of the Go sources", TOP, "sh", "-c", 'test -z "$(gofmt -l "$@" | tee /dev/stderr)"', "sh", *sources, skipped=missing)
     yield Step("clients/go, vet", GO, "go", "vet", ".", skipped=missing)
     yield Step("clients/go", GO, "go", "test", "-count=1", ".", skipped=missing)
+    yield Step("examples/ten_minutes/go, vet", first, "go", "vet", ".", skipped=missing)
     client_go = os.environ.get("CLIENT_GO", "")
     if not missing and not has_client_go(client_go):
         missing = "CLIENT_GO names no GOPATH with client-go"
-    os.makedirs(f"{room}/src")
-    os.symlink(GO, f"{room}/src/nazhuvem")
+    os.makedirs(f"{room}/src/nazhuvem.example")
+    os.symlink(GO, f"{room}/src/nazhuvem.example/nazhuvem")
     yield Step("examples/reconcile_go", f"{TOP}/examples/reconcile_go", "go", "test", "-count=1", ".", skipped=missing,
                GO111MODULE="off", CGO_ENABLED="0", GOPATH=f"{client_go}:{room}")
 

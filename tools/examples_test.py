@@ -37,14 +37,30 @@ SECONDS = 600
 
 @dataclasses.dataclass(frozen=True)
 class Page:
-    """A page with what its commands need beside the server."""
+    """A page, or its part below a heading, with what its commands need beside the server."""
 
     path: str
     needs: tuple[str, ...] = ()
+    heading: str = ""
+
+    @property
+    def name(self) -> str:
+        """How the page is told."""
+        return f"{self.path}, {self.heading}" if self.heading else self.path
+
+    def parts(self) -> tuple[str, str, str]:
+        """The text before the part, the part, and the text behind it."""
+        text = read(self.path)
+        if not self.heading:
+            return "", text, ""
+        begin = text.index(f"\n## {self.heading}\n") + 1
+        end = text.find("\n## ", begin) + 1 or len(text)
+        return text[:begin], text[begin:end], text[end:]
 
 
 PAGES = (
-    Page("docs/TEN_MINUTES.md", ("python3-kubernetes", "python3-pytest")),
+    Page("docs/TEN_MINUTES.md", ("python3-kubernetes", "python3-pytest"), "In Python"),
+    Page("docs/TEN_MINUTES.md", ("golang-go", "python3-yaml"), "In Go"),
     Page("examples/README.md"),
     Page("examples/crd.md", ("python3-yaml",)),
     Page("examples/types/README.md"),
@@ -174,19 +190,20 @@ def main(words: list[str]) -> int:
     for page in PAGES:
         lacking = [it for it in page.needs if not has(it)]
         if lacking:
-            skipped.append(page.path)
-            print(f"{page.path}: skipped, without {', '.join(lacking)}")
+            skipped.append(page.name)
+            print(f"{page.name}: skipped, without {', '.join(lacking)}")
             continue
-        text, differences, count = played(read(page.path), program)
+        before, part, behind = page.parts()
+        text, differences, count = played(part, program)
         print(
             *differences,
-            f"{page.path}: {count} commands, {len(differences)} differences",
+            f"{page.name}: {count} commands, {len(differences)} differences",
             sep="\n",
         )
         failed += len(differences) + (count == 0)
         commands += count
         if is_write:
-            write(page.path, text)
+            write(page.path, before + text + behind)
     print(
         f"{commands} commands of {len(PAGES) - len(skipped)} pages, {failed} failed, {len(skipped)} pages skipped"
     )

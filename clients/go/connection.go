@@ -8,6 +8,7 @@ import (
 	"fmt"
 	"io"
 	"net/http"
+	"strconv"
 	"strings"
 	"unicode/utf8"
 )
@@ -28,10 +29,13 @@ type connection struct {
 	failed error
 	// isRead tells that a reader waits for bytes.
 	isRead bool
-	// isTold tells that its reply has begun.
-	isTold bool
+	// whole is its reply, where that ended with the request.
+	whole []byte
 	// isWatch tells that its reply goes on after the request.
 	isWatch bool
+	// written and text are the lines of a watch, as far as they came.
+	written chunks
+	text    []byte
 	// over is closed when it is over.
 	over chan struct{}
 }
@@ -121,6 +125,35 @@ func inLine(number uint64, data []byte) string {
 		panic(err) // a text is always JSON
 	}
 	return fmt.Sprintf(`{"in":[%d,%s]}`, number, text)
+}
+
+// linesOf are the lines of a watch that its next bytes complete.
+func (c *connection) linesOf(data []byte) [][]byte {
+	lines := bytes.Split(append(c.text, c.written.feed(data)...), []byte("\n"))
+	last := len(lines) - 1
+	c.text = lines[last]
+	return lines[:last]
+}
+
+// chunks reads the pieces of a chunked body, in whatever pieces they come.
+type chunks struct{ rest []byte }
+
+// feed is the contents of the chunks that these bytes complete.
+func (c *chunks) feed(data []byte) []byte {
+	c.rest = append(c.rest, data...)
+	var found []byte
+	for {
+		head, behind, isWhole := bytes.Cut(c.rest, []byte("\r\n"))
+		if !isWhole {
+			return found
+		}
+		length, err := strconv.ParseUint(string(head), 16, 32)
+		if err != nil || uint64(len(behind)) < length+2 {
+			return found
+		}
+		found = append(found, behind[:length]...)
+		c.rest = behind[length+2:]
+	}
 }
 
 func isWrite(method string) bool {

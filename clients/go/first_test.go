@@ -6,7 +6,7 @@ import (
 	"net/http"
 	"testing"
 
-	"nazhuvem"
+	"nazhuvem.example/nazhuvem"
 )
 
 const widget = "/apis/demo.example/v1/namespaces/default/widgets/w"

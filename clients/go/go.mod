@@ -1,3 +1,3 @@
-module nazhuvem
+module nazhuvem.example/nazhuvem
 
 go 1.19

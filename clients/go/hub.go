@@ -6,9 +6,7 @@ import (
 	"encoding/json"
 	"errors"
 	"fmt"
-	"io"
 	"net/http"
-	"os"
 	"strings"
 	"sync"
 	"testing"
@@ -25,14 +23,14 @@ type Hub struct {
 	// t is who is told of failures.
 	t reporter
 	// observer is who is told of events, or nil.
-	observer *player
+	observer observer
+	// isUnchecked tells that its requests may be refused.
+	isUnchecked bool
 }
 
 // server is what all views of a hub share; the lock guards what is below it.
 type server struct {
-	// first is the first type of the file.
-	first typeNames
-	lock  sync.Mutex
+	lock sync.Mutex
 	// moved is told of whatever a reader may wait for.
 	moved     *sync.Cond
 	pipe      *pipe
@@ -42,8 +40,11 @@ type server struct {
 	held      int
 	movesSelf bool
 	now       time.Duration
-	// told is how often watches have written.
-	told uint64
+	// brought are the lines that a pump brings, while there is one.
+	brought   [][]byte
+	isPumping bool
+	// settling is what Settle sees, while there is one.
+	settling *settling
 	// heldBack is how many pumps brought nothing since lines were held back.
 	heldBack uint64
 	// hasEnded tells that a watch has ended or was cut since all had settled.
@@ -51,8 +52,13 @@ type server struct {
 	// stirs is how often something has happened or was read.
 	stirs uint64
 	run   *run
-	// actions are what a schedule may let happen, by Meanwhile.
+	// asked is how many events were the controller's, idleRuns how often the work of Run had
+	// none.
+	asked, idleRuns int
+	// actions are what a schedule may let happen, by Meanwhile; acting is how many of them
+	// happen now.
 	actions []action
+	acting  int
 	err     error
 }
 
@@ -63,31 +69,63 @@ type reporter interface {
 	FailNow()
 }
 
-// Start starts a hub of the types file of this path; it ends with the test. The options are
-// those of the program's own client, "--page", "10" say; it follows the first type of the
-// file where none is named.
-func Start(t testing.TB, types string, options ...string) *Hub {
+// untested is the reporter of a hub that is of no test.
+type untested struct{}
+
+func (untested) Helper()                                { /* there is no test */ }
+func (untested) Errorf(format string, arguments ...any) { panic(fmt.Sprintf(format, arguments...)) }
+func (untested) FailNow()                               { panic("FailNow of a hub that is of no test") }
+
+// Start starts a hub of these types; it ends with the test, and where that fails it logs its
+// last events. The types are a types file, or a CustomResourceDefinition, a bundle or a folder of
+// them; what of these isn't served is logged.
+func Start(t testing.TB, types string, options ...HubOption) *Hub {
 	t.Helper()
-	hub, err := New(types, options...)
+	hub, err := started(types, options)
 	if err != nil {
 		t.Fatal(err)
 	}
-	hub.t = t
-	t.Cleanup(hub.Close)
+	if lost := hub.pipe.types.lost; lost != "" {
+		t.Log(lost)
+	}
+	events := &noted{}
+	hub.t, hub.observer = t, events
+	t.Cleanup(func() {
+		hub.Close()
+		if t.Failed() && len(events.rows) > 0 {
+			t.Logf("events of the hub:\n%s", strings.Join(shown(events.rows), "\n"))
+		}
+	})
 	return hub
 }
 
-// New starts a hub that is of no test. Close ends it.
-func New(types string, options ...string) (*Hub, error) {
-	first, _ := firstTypeOf(types) // the program says what is wrong with the file
-	if !has(options, "--type") && first != (typeNames{}) {
-		options = append(options, "--type", first.Group+"/"+first.Version+"/"+first.Plural)
+// New starts a hub that is of no test, as Start does. Close ends it.
+func New(types string, options ...HubOption) (*Hub, error) {
+	hub, err := started(types, options)
+	if err == nil {
+		hub.pipe.types.tell()
 	}
-	pipe, err := startPipe(types, options)
+	return hub, err
+}
+
+func started(types string, options []HubOption) (*Hub, error) {
+	s := settings{paths: []string{types}}
+	for _, option := range options {
+		option.start(&s)
+	}
+	pipe, err := startPipe(s)
 	if err != nil {
 		return nil, err
 	}
-	hub := &Hub{server: &server{pipe: pipe, first: first}}
+	return over(pipe)
+}
+
+// over is a hub over a program that was started.
+func over(pipe *pipe) (*Hub, error) {
+	if err := pipe.begin(); err != nil {
+		return nil, err
+	}
+	hub := &Hub{server: &server{pipe: pipe}, t: untested{}}
 	hub.moved = sync.NewCond(&hub.lock)
 	return hub, nil
 }
@@ -116,8 +154,13 @@ func (h *Hub) Errorf(format string, arguments ...any) {
 // FailNow ends the test, or the play of Explore.
 func (h *Hub) FailNow() { h.t.FailNow() }
 
-// Helper is that of a test.
-func (h *Hub) Helper() { h.t.Helper() }
+// Helper marks the function that calls it as a test's helper, in a scenario of Explore: its
+// lines are no place of a failure.
+func (h *Hub) Helper() {
+	if p, isPlayed := h.t.(*player); isPlayed {
+		p.help()
+	}
+}
 
 // Fatalf tells the test of a failure, and ends it.
 func (h *Hub) Fatalf(format string, arguments ...any) {
@@ -128,11 +171,9 @@ func (h *Hub) Fatalf(format string, arguments ...any) {
 
 // must ends the test where an event of the test itself fails.
 func (h *Hub) must(err error) {
-	if err != nil && h.t != nil {
-		h.t.Helper()
+	h.t.Helper()
+	if err != nil {
 		h.Fatalf("%v", err)
-	} else if err != nil {
-		panic(err)
 	}
 }
 
@@ -146,6 +187,9 @@ func (h *Hub) roundTrip(request *http.Request, by *run) (*http.Response, error) 
 	if err != nil {
 		return nil, err
 	}
+	if h.isDead(by) { // (what is no event at all)
+		return nil, errBegunAnew
+	}
 	event := &Event{Kind: "request", Method: request.Method, Target: request.URL.RequestURI(), IsControllers: by != nil, content: content}
 	h.before(event)
 	c, err := h.send(data, by)
@@ -156,7 +200,7 @@ func (h *Hub) roundTrip(request *http.Request, by *run) (*http.Response, error) 
 	if err != nil {
 		return nil, err
 	}
-	event.Status = response.StatusCode
+	event.Status, event.reply = response.StatusCode, c.whole
 	h.after(event)
 	if done := request.Context().Done(); done != nil && response.ContentLength < 0 {
 		go h.leaveWith(request.Context(), c)
@@ -175,57 +219,9 @@ func (s *server) leaveWith(ctx context.Context, c *connection) {
 	}
 }
 
-// Request sends a request and returns its status and body. A body that is nil is none, one
-// that is a string is sent as it is, any other as JSON. PATCH is an apply.
-func (h *Hub) Request(method, path string, body any) (int, []byte) {
-	if h.t != nil {
-		h.t.Helper()
-	}
-	status, content, err := Send(h, method, path, body)
-	h.must(err)
-	return status, content
-}
-
-// Apply applies a body to the object of the path, by a manager, with or without force.
-func (h *Hub) Apply(manager, path string, body any, force bool) (int, []byte) {
-	target := path + "?fieldManager=" + manager
-	if force {
-		target += "&force=true"
-	}
-	return h.Request(http.MethodPatch, target, body)
-}
-
-// Send sends a request over a transport, as Hub.Request does.
-func Send(transport http.RoundTripper, method, path string, body any) (int, []byte, error) {
-	var content io.Reader
-	if text, isText := body.(string); isText {
-		content = strings.NewReader(text)
-	} else if body != nil {
-		text, err := json.Marshal(body)
-		if err != nil {
-			return 0, nil, err
-		}
-		content = bytes.NewReader(text)
-	}
-	request, err := http.NewRequest(method, "http://hub"+path, content)
-	if err != nil {
-		return 0, nil, err
-	}
-	if body != nil {
-		media := map[bool]string{true: "application/apply-patch+yaml", false: "application/json"}
-		request.Header.Set("Content-Type", media[method == http.MethodPatch])
-	}
-	response, err := transport.RoundTrip(request)
-	if err != nil {
-		return 0, nil, err
-	}
-	defer response.Body.Close()
-	reply, err := io.ReadAll(response.Body)
-	return response.StatusCode, reply, err
-}
-
 // Revision is the server's current version.
 func (h *Hub) Revision() uint64 {
+	h.t.Helper()
 	h.lock.Lock()
 	defer h.lock.Unlock()
 	revision, err := h.revision()
@@ -234,8 +230,8 @@ func (h *Hub) Revision() uint64 {
 }
 
 func (s *server) revision() (uint64, error) {
-	one := s.first
-	data := fmt.Sprintf("GET /apis/%s/%s/%s?limit=1 HTTP/1.1\r\nHost: hub\r\n\r\n", one.Group, one.Version, one.Plural)
+	one := s.pipe.types.first
+	data := fmt.Sprintf("GET /apis/%s?limit=1 HTTP/1.1\r\nHost: hub\r\n\r\n", one)
 	c, err := s.sendLocked([]byte(data), nil)
 	if err != nil {
 		return 0, err
@@ -248,33 +244,6 @@ func (s *server) revision() (uint64, error) {
 	}
 	err = json.Unmarshal(list, &found)
 	return found.Metadata.ResourceVersion, err
-}
-
-type typeNames struct{ Group, Version, Kind, Plural string }
-
-// firstTypeOf is the first type of a types file.
-func firstTypeOf(path string) (typeNames, error) {
-	data, err := os.ReadFile(path)
-	if err != nil {
-		return typeNames{}, err
-	}
-	var file struct{ Types []typeNames }
-	if err := json.Unmarshal(data, &file); err != nil {
-		return typeNames{}, err
-	}
-	if len(file.Types) == 0 {
-		return typeNames{}, errors.New("no types")
-	}
-	return file.Types[0], nil
-}
-
-func has(options []string, name string) bool {
-	for _, option := range options {
-		if option == name {
-			return true
-		}
-	}
-	return false
 }
 
 // Script is all that has happened, as a script that ssa-replay plays.

@@ -12,15 +12,6 @@ import (
 	"time"
 )
 
-const (
-	types   = "../../examples/widgets.json"
-	widgets = "/apis/demo.example/v1/namespaces/default/widgets"
-)
-
-func widget(spec string) string {
-	return fmt.Sprintf(`{"apiVersion":"demo.example/v1","kind":"Widget"%s}`, spec)
-}
-
 // reconcile has a race: the widget may be deleted between its two requests.
 func reconcile(transport http.RoundTripper, isCareful bool) error {
 	status, _, err := Send(transport, "GET", widgets+"/w", nil)
@@ -39,7 +30,7 @@ func TestReplies(t *testing.T) {
 	if status, reply := hub.Apply("alice", widgets+"/w", widget(`,"spec":{"image":"a"}`), false); status != http.StatusCreated {
 		t.Fatalf("%d %s", status, reply)
 	}
-	if status, reply := hub.Apply("bob", widgets+"/w", widget(`,"spec":{"image":"b"}`), false); status != http.StatusConflict {
+	if status, reply := hub.TryApply("bob", widgets+"/w", widget(`,"spec":{"image":"b"}`), false); status != http.StatusConflict {
 		t.Fatalf("%d %s", status, reply)
 	}
 	if revision := hub.Revision(); revision != 2 {
@@ -136,7 +127,7 @@ func TestCompaction(t *testing.T) {
 	hub.Pump()
 	next(t, lines, "ERROR")
 	next(t, lines, "")
-	if status, _ := hub.Request("GET", widgets+"?watch=true&resourceVersion=1", nil); status != http.StatusGone {
+	if status, _ := hub.TryRequest("GET", widgets+"?watch=true&resourceVersion=1", nil); status != http.StatusGone {
 		t.Fatal(status)
 	}
 }

@@ -7,7 +7,9 @@ import (
 	"encoding/json"
 	"fmt"
 	"io"
+	"os"
 	"os/exec"
+	"strconv"
 	"strings"
 )
 
@@ -55,20 +57,37 @@ type part struct {
 	Bad     string
 }
 
-// pipe is a running ssa-pipe.
+// pipe is a running ssa-pipe. It ends by close.
 type pipe struct {
-	command *exec.Cmd
-	to      io.WriteCloser
-	from    *bufio.Reader
-	said    bytes.Buffer
+	types *typesFile
+	// words are those of its command line, but for the types.
+	words     []string
+	temporary string
+	command   *exec.Cmd
+	to        io.WriteCloser
+	from      *bufio.Reader
+	said      bytes.Buffer
 }
 
-func startPipe(types string, options []string) (*pipe, error) {
+// startPipe starts the program without waiting until it answers, as begin does.
+func startPipe(s settings) (*pipe, error) {
 	program, err := Find("ssa-pipe")
 	if err != nil {
 		return nil, err
 	}
-	p := &pipe{command: exec.Command(program, append([]string{"--types", types}, options...)...)}
+	types, err := typesOf(s.paths)
+	if err != nil {
+		return nil, err
+	}
+	path, isTemporary, err := types.written()
+	if err != nil {
+		return nil, err
+	}
+	p := &pipe{types: types, words: s.commandLine(types.first)}
+	if isTemporary {
+		p.temporary = path
+	}
+	p.command = exec.Command(itself(program), append([]string{"--types", path}, p.words...)...)
 	p.command.Env = environment()
 	p.command.Stderr = &p.said
 	if p.to, err = p.command.StdinPipe(); err != nil {
@@ -79,7 +98,56 @@ func startPipe(types string, options []string) (*pipe, error) {
 		return nil, err
 	}
 	p.from = bufio.NewReaderSize(from, 1<<16)
-	return p, p.command.Start()
+	if err := p.command.Start(); err != nil {
+		return nil, err
+	}
+	return p, nil
+}
+
+// commandLine are the words of a command line, but for the types.
+func (s settings) commandLine(first typeNames) []string {
+	var words []string
+	if !s.isPlain {
+		words = append(words, "--discovery")
+	}
+	if !s.hasType && first != (typeNames{}) {
+		words = append(words, "--type", first.String())
+	}
+	return append(words, s.words...)
+}
+
+// begin waits until it answers, or tells why it doesn't: no line is {}.
+func (p *pipe) begin() error {
+	_, err := p.ask("{}")
+	p.forget()
+	return err
+}
+
+// forget removes a types file of its own, which the program has read.
+func (p *pipe) forget() {
+	if p.temporary != "" {
+		os.Remove(p.temporary)
+		p.temporary = ""
+	}
+}
+
+// replay is the command that plays a script of it again.
+func (p *pipe) replay(script string) (string, error) {
+	types, err := p.types.kept(script)
+	words := append([]string{"ssa-replay", "--types", types}, append(p.words, "--script", script)...)
+	for at, word := range words {
+		words[at] = quoted(word)
+	}
+	return strings.Join(words, " "), err
+}
+
+// quoted is a word as a shell takes it.
+func quoted(word string) string {
+	const plain = "abcdefghijklmnopqrstuvwxyzABCDEFGHIJKLMNOPQRSTUVWXYZ0123456789_-./=:,@%+"
+	if word != "" && strings.Trim(word, plain) == "" {
+		return word
+	}
+	return "'" + strings.ReplaceAll(word, "'", `'"'"'`) + "'"
 }
 
 // ask sends the lines at once and reads the answer to each.
@@ -102,8 +170,22 @@ func (p *pipe) ask(lines ...string) ([]Answer, error) {
 	return answers, nil
 }
 
-// read adds what a line says, and tells whether it is the last of the answer.
+// read adds what a line says, and tells whether it is the last of the answer. Most lines are
+// of two forms.
 func (a *Answer) read(line []byte) (bool, error) {
+	line = bytes.TrimSuffix(line, []byte("\n"))
+	if number, isPlain := numberIn(line, `{"done":`, "}"); isPlain {
+		a.Event = number
+		return true, nil
+	}
+	if head, text, isPair := bytes.Cut(line, []byte(",")); isPair && bytes.HasSuffix(text, []byte("]}")) {
+		if number, isOut := numberIn(head, `{"out":[`, ""); isOut {
+			var written string
+			err := json.Unmarshal(text[:len(text)-len("]}")], &written)
+			a.Out = append(a.Out, Written{number, []byte(written)})
+			return false, err
+		}
+	}
 	var it part
 	if err := json.Unmarshal(line, &it); err != nil {
 		return false, err
@@ -124,6 +206,16 @@ func (a *Answer) read(line []byte) (bool, error) {
 		a.Opened = it.Opened
 	}
 	return false, nil
+}
+
+// numberIn is the number between these two, where nothing else is.
+func numberIn(line []byte, before, behind string) (uint64, bool) {
+	text := string(line)
+	if !strings.HasPrefix(text, before) || !strings.HasSuffix(text, behind) {
+		return 0, false
+	}
+	number, err := strconv.ParseUint(text[len(before):len(text)-len(behind)], 10, 64)
+	return number, err == nil
 }
 
 func (a *Answer) written(pair []json.RawMessage, isHex bool) error {
@@ -161,4 +253,5 @@ func (p *pipe) failed(err error) error {
 func (p *pipe) close() {
 	p.to.Close()
 	_ = p.command.Wait()
+	p.forget()
 }

@@ -10,16 +10,16 @@ import (
 	"sync"
 )
 
-// repository is the top of the repository that this file stands in, where it does.
-func repository() string {
+// module is the folder of this file; "" where the compiler was told to forget it.
+func module() string {
 	_, file, _, ok := runtime.Caller(0)
-	if !ok {
+	if !ok || !filepath.IsAbs(file) {
 		return ""
 	}
 	if real, err := filepath.EvalSymlinks(file); err == nil {
 		file = real
 	}
-	return filepath.Dir(filepath.Dir(filepath.Dir(file)))
+	return filepath.Dir(file)
 }
 
 func isProgram(path string) bool {
@@ -37,8 +37,8 @@ func isSame(path, other string) bool {
 	return err == nil && os.SameFile(one, two)
 }
 
-// ofRepository is the program that was built at the top of a repository, or the released
-// one; "" where there is neither.
+// ofRepository is the program that was built at the top of a repository, the one of an
+// unpacked release, or the released one; "" where there is none.
 func ofRepository(top, name string) string {
 	file := strings.ReplaceAll(name, "-", "_")
 	crate := file
@@ -52,6 +52,9 @@ func ofRepository(top, name string) string {
 		}
 		return filepath.Join(top, name) // which calls it by its name
 	}
+	if _, err := os.Stat(filepath.Join(top, "MANIFEST")); err == nil && isProgram(filepath.Join(top, name)) {
+		return filepath.Join(top, name)
+	}
 	released := filepath.Join(top, "tools", "released.py")
 	if info, err := os.Stat(filepath.Join(top, "release")); err != nil || !info.IsDir() || !isProgram(released) {
 		return ""
@@ -63,35 +66,64 @@ func ofRepository(top, name string) string {
 	return strings.TrimSpace(string(path))
 }
 
-// found has the programs that were found, by name.
+// found has the programs that were found beside the module, "" for none, by name.
 var found sync.Map
 
 // Find returns the path of a program, "ssa-pipe" say: in the folder that NAZHUVEM_BIN
-// names, in the module's own bin, at the top of the repository that the module stands in,
-// or in PATH, in this order.
+// names; without it in the module's own bin, at the top of the repository or of the
+// release that the module stands in, or in PATH, in this order.
 func Find(name string) (string, error) {
 	if folder := os.Getenv("NAZHUVEM_BIN"); folder != "" {
-		if path := filepath.Join(folder, name); isProgram(path) {
-			return path, nil
+		path := filepath.Join(folder, name)
+		if !isProgram(path) {
+			return "", fmt.Errorf("NAZHUVEM_BIN is %s, which has no %s", folder, name)
 		}
+		return path, nil
 	}
-	if path, isKnown := found.Load(name); isKnown {
-		return path.(string), nil
+	beside, isKnown := found.Load(name)
+	if !isKnown {
+		beside = besideModule(module(), name)
+		found.Store(name, beside)
 	}
-	path := ""
-	if top := repository(); top != "" {
-		if path = filepath.Join(top, "clients", "go", "bin", name); !isProgram(path) {
-			path = ofRepository(top, name)
-		}
+	if path := beside.(string); path != "" {
+		return path, nil
 	}
-	if path == "" {
-		var err error
-		if path, err = exec.LookPath(name); err != nil {
-			return "", fmt.Errorf("%s is in no folder of NAZHUVEM_BIN, the module, the repository, PATH", name)
-		}
+	path, err := exec.LookPath(name)
+	if err != nil {
+		return "", notFound(module(), name)
 	}
-	found.Store(name, path)
 	return path, nil
+}
+
+// besideModule is the program in the bin of the module's folder, or at the top around it.
+func besideModule(folder, name string) string {
+	if folder == "" {
+		return ""
+	}
+	if path := filepath.Join(folder, "bin", name); isProgram(path) {
+		return path
+	}
+	return ofRepository(filepath.Dir(filepath.Dir(folder)), name)
+}
+
+// notFound says where a program is looked for, and what to do.
+func notFound(folder, name string) error {
+	bin := "the module's bin/"
+	if folder != "" {
+		bin = filepath.Join(folder, "bin")
+	}
+	return fmt.Errorf("%s is neither in %s nor in PATH: put the programs there, or set NAZHUVEM_BIN to their folder "+
+		"(in a clone `tools/released.py --all` prints one)", name, bin)
+}
+
+// itself is the program that a script of this path starts in a release, else the path: a
+// hub is sooner there without the script.
+func itself(path string) string {
+	beside := filepath.Join(filepath.Dir(path), "programs", filepath.Base(path))
+	if isProgram(beside) {
+		return beside
+	}
+	return path
 }
 
 // environment is that of a program: the C library keeps the small pieces of memory that

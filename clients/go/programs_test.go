@@ -36,3 +36,46 @@ func TestTheBuiltPipeIsCalledByItsName(t *testing.T) {
 	}
 	expect("ssa-pipe", pipe)
 }
+
+// TestAProgramThatIsMissing is about what is said where there is none.
+func TestAProgramThatIsMissing(t *testing.T) {
+	folder := t.TempDir()
+	contains(t, notFound(folder, "ssa-pipe").Error(), "ssa-pipe is neither in "+folder+"/bin nor in PATH", "set NAZHUVEM_BIN")
+	contains(t, notFound("", "ssa-pipe").Error(), "ssa-pipe is neither in the module's bin/ nor in PATH: put the programs there")
+	t.Setenv("NAZHUVEM_BIN", folder)
+	if _, err := Find("ssa-pipe"); err == nil || err.Error() != "NAZHUVEM_BIN is "+folder+", which has no ssa-pipe" {
+		t.Error(err)
+	}
+}
+
+// TestAnUnpackedRelease is about a module that stands in one: its programs are called without
+// the scripts that start them.
+func TestAnUnpackedRelease(t *testing.T) {
+	top := t.TempDir()
+	script, program := filepath.Join(top, "ssa-pipe"), filepath.Join(top, "programs", "ssa-pipe")
+	if err := os.Mkdir(filepath.Join(top, "programs"), 0o777); err != nil {
+		t.Fatal(err)
+	}
+	for _, path := range []string{script, program, filepath.Join(top, "MANIFEST")} {
+		if err := os.WriteFile(path, []byte("#!/bin/sh\n"), 0o755); err != nil {
+			t.Fatal(err)
+		}
+	}
+	module := filepath.Join(top, "clients", "go")
+	if found := besideModule(module, "ssa-pipe"); found != script {
+		t.Error(found)
+	}
+	if found := itself(script); found != program {
+		t.Error(found)
+	}
+	if err := os.MkdirAll(filepath.Join(module, "bin"), 0o777); err != nil {
+		t.Fatal(err)
+	}
+	carried := filepath.Join(module, "bin", "ssa-pipe")
+	if err := os.Rename(script, carried); err != nil {
+		t.Fatal(err)
+	}
+	if found := besideModule(module, "ssa-pipe"); found != carried || itself(found) != carried {
+		t.Error(found)
+	}
+}

@@ -92,9 +92,9 @@ func inPhases(begin func(*Hub, http.RoundTripper) *follower) func(*Hub) {
 			hub.Apply("alice", widgets+"/w", widget(3), false)
 			return hub.Settle(ctx, controller.step)
 		})
-		status, reply := hub.Request(http.MethodGet, widgets+"/w", nil)
-		if status == http.StatusOK && !strings.Contains(string(reply), `"ready":3`) {
-			hub.Errorf("not all are ready: %s", reply)
+		var found struct{ Status struct{ Ready int } }
+		if hub.Get(widgets+"/w", &found) && found.Status.Ready != 3 {
+			hub.Errorf("%d are ready, and not 3", found.Status.Ready)
 		}
 	}
 }
@@ -112,7 +112,7 @@ func TestWhoLooksAtNothingIsFound(t *testing.T) {
 	}
 	for _, kind := range []Kind{Cuts, Expiries} {
 		failure, _, err := Search(types, inPhases(begin), kind)
-		if err != nil || failure == nil || !strings.Contains(failure.Said, "not all are ready") {
+		if err != nil || failure == nil || !strings.Contains(failure.Said, "are ready, and not 3") {
 			t.Fatal(failure, err)
 		}
 	}

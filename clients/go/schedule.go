@@ -1,251 +1,114 @@
 package nazhuvem
 
 import (
-	"encoding/json"
 	"fmt"
-	"time"
+	"reflect"
+	"regexp"
+	"strings"
 )
 
-// What the test lets happen: lines of watches, time, compactions, cuts.
+const undisturbed = "undisturbed"
 
-// Pump lets each watch, in the order in which they opened, write all that it has to, and
-// returns how many have written something.
-func (h *Hub) Pump() int {
-	h.before(&Event{Kind: "pump", IsControllers: h.isRunning()})
-	h.lock.Lock()
-	defer h.lock.Unlock()
-	written, err := h.pump()
-	h.must(err)
-	return written
+// Schedule is a disturbance before the event of a number; none where it is nil.
+type Schedule struct {
+	Place       int
+	Disturbance Disturbance
+	// Then is a second disturbance, at this place or later; nil where there is none.
+	Then *Schedule
+	// events are those without the disturbance, which those before its place have to be.
+	events []Event
+	// twins is how many schedules before it have the same word.
+	twins int
 }
 
-func (s *server) pump() (int, error) {
-	if s.held > 0 {
-		s.held--
-		s.heldBack++
-		return 0, nil
+// String is the schedule as a line.
+func (s Schedule) String() string {
+	if s.Disturbance == nil {
+		return "no disturbance"
 	}
-	const most = 500
-	before := s.told
-	for _, c := range append([]*connection(nil), s.open...) {
-		for last := s.told - 1; !c.isOver() && last != s.told; {
-			last = s.told
-			if _, err := s.play(fmt.Sprintf(`{"pump":[%d,%d]}`, c.number, most)); err != nil {
-				return 0, err
+	said := fmt.Sprintf("before event %d: %s", s.Place, s.Disturbance)
+	if s.Then != nil {
+		said += "; " + s.Then.String()
+	}
+	return said
+}
+
+// Word is the word by which it is played again, 7-cut+9-hold-1 say: the name of its subtest.
+func (s Schedule) Word() string {
+	if s.Disturbance == nil {
+		return undisturbed
+	}
+	word := fmt.Sprintf("%d-%s", s.Place, slug(s.Disturbance.String()))
+	if s.twins > 0 {
+		word += fmt.Sprintf(".%d", s.twins+1)
+	}
+	if s.Then != nil {
+		word += "+" + s.Then.Word()
+	}
+	return word
+}
+
+// steps are its disturbances, one by one.
+func (s Schedule) steps() []Schedule {
+	all := []Schedule{s}
+	if s.Then != nil {
+		all = append(all, s.Then.steps()...)
+	}
+	return all
+}
+
+var (
+	prefix = regexp.MustCompile(`/apis/[^/]+/[^/]+/namespaces/`)
+	others = regexp.MustCompile(`[^A-Za-z0-9_.]+`)
+)
+
+// slug is a text in letters that a shell and a test's name take as they are.
+func slug(text string) string {
+	return strings.Trim(others.ReplaceAllString(prefix.ReplaceAllString(text, ""), "-"), "-")
+}
+
+// singles are all schedules of one disturbance: before the controller's events, or before
+// each where the scenario doesn't tell which are the controller's.
+func singles(places []Place, kinds []Kind) []Schedule {
+	var events []Event
+	isTold := false
+	for _, place := range places {
+		isTold = isTold || place.Event.IsControllers
+		events = append(events, place.Event)
+	}
+	var all []Schedule
+	for _, place := range places {
+		if isTold && !place.Event.IsControllers {
+			continue
+		}
+		seen := map[string][]Disturbance{}
+		for _, kind := range kinds {
+			for _, one := range kind(place) {
+				schedule := Schedule{Place: place.Number, Disturbance: one, events: events}
+				word := schedule.Word()
+				if schedule.twins = len(seen[word]); !has(seen[word], one) {
+					seen[word] = append(seen[word], one)
+					all = append(all, schedule)
+				}
 			}
 		}
 	}
-	return int(s.told - before), nil
+	return all
 }
 
-// MoveByThemselves says whether watches write their lines as soon as something is written,
-// without a Pump. At first they don't.
-func (h *Hub) MoveByThemselves(isSo bool) {
-	h.lock.Lock()
-	defer h.lock.Unlock()
-	h.movesSelf = isSo
-	h.must(h.movedOn())
-}
-
-func (s *server) movedOn() error {
-	if !s.movesSelf {
-		return nil
-	}
-	_, err := s.pump()
-	return err
-}
-
-// Tick lets so much of the hub's time pass: bookmarks are written, and watches end whose
-// time is over.
-func (h *Hub) Tick(passed time.Duration) {
-	h.lock.Lock()
-	defer h.lock.Unlock()
-	h.now += passed
-	_, err := h.play(fmt.Sprintf(`{"tick":%d}`, h.now.Milliseconds()))
-	h.must(err)
-	h.must(h.movedOn())
-}
-
-// Now is the hub's time since its start.
-func (h *Hub) Now() time.Duration {
-	h.lock.Lock()
-	defer h.lock.Unlock()
-	return h.now
-}
-
-// Compact lets the server forget the changes up to the current version.
-func (h *Hub) Compact() {
-	h.lock.Lock()
-	defer h.lock.Unlock()
-	revision, err := h.revision()
-	h.must(err)
-	_, err = h.play(fmt.Sprintf(`{"compact":%d}`, revision))
-	h.must(err)
-}
-
-// Cut cuts the connections of all watches.
-func (h *Hub) Cut() {
-	h.lock.Lock()
-	defer h.lock.Unlock()
-	for _, c := range append([]*connection(nil), h.open...) {
-		h.hasEnded = true
-		h.must(h.leave(c, errCut))
-	}
-}
-
-// Hold holds the lines of watches back: the next so many pumps bring none.
-func (h *Hub) Hold(pumps int) {
-	h.lock.Lock()
-	defer h.lock.Unlock()
-	h.held += pumps
-}
-
-// Watches is how many watches are open.
-func (h *Hub) Watches() int {
-	h.lock.Lock()
-	defer h.lock.Unlock()
-	return len(h.open)
-}
-
-// Event lets any line of a script happen, {"client": "send"} say, and returns what it
-// brought. It is an error that wraps ErrRefused where it changed nothing.
-func (h *Hub) Event(line any) (Answer, error) {
-	text, err := json.Marshal(line)
-	if err != nil {
-		return Answer{}, err
-	}
-	h.lock.Lock()
-	defer h.lock.Unlock()
-	return h.play(string(text))
-}
-
-// Rest waits until nothing has happened on the hub for so long: no request came, and what
-// was written on watches has been read. Use it after a Pump where the controller has
-// goroutines of its own.
-func (h *Hub) Rest(quiet time.Duration) {
-	before := h.stirred()
-	for began := time.Now(); time.Since(began) < quiet; time.Sleep(quiet / 10) {
-		if after := h.stirred(); after != before || !h.isRead() {
-			began, before = time.Now(), after
+// has is whether a disturbance is one of these.
+func has(some []Disturbance, one Disturbance) bool {
+	for _, other := range some {
+		if isEqual(one, other) {
+			return true
 		}
 	}
+	return false
 }
 
-// stirred counts what happens on a server.
-func (s *server) stirred() uint64 {
-	s.lock.Lock()
-	defer s.lock.Unlock()
-	return s.stirs
-}
-
-// isRead tells whether the reader of each watch has read all that was written on it, and
-// waits for more.
-func (s *server) isRead() bool {
-	s.lock.Lock()
-	defer s.lock.Unlock()
-	for _, c := range s.open {
-		if !c.isRead || len(c.waiting) > 0 {
-			return false
-		}
-	}
-	return true
-}
-
-// send opens a connection on which these bytes come in one piece.
-func (s *server) send(data []byte, by *run) (*connection, error) {
-	s.lock.Lock()
-	defer s.lock.Unlock()
-	if by != nil && by.isDead {
-		return nil, errBegunAnew
-	}
-	c, err := s.sendLocked(data, by)
-	if err != nil {
-		return nil, err
-	}
-	return c, s.movedOn()
-}
-
-func (s *server) sendLocked(data []byte, by *run) (*connection, error) {
-	s.highest++
-	c := &connection{server: s, number: s.highest, run: by, over: make(chan struct{})}
-	s.open = append(s.open, c)
-	_, err := s.play(fmt.Sprintf(`{"open":%d}`, c.number), inLine(c.number, data))
-	c.isWatch = !c.isOver()
-	return c, err
-}
-
-// leave tells that the peer of a connection has gone, where it hasn't ended.
-func (s *server) leave(c *connection, why error) error {
-	if c.isOver() {
-		return nil
-	}
-	c.failed = why
-	s.drop(c)
-	_, err := s.play(fmt.Sprintf(`{"gone":%d}`, c.number))
-	return err
-}
-
-func (s *server) drop(c *connection) {
-	for at, one := range s.open {
-		if one == c {
-			close(c.over)
-			s.open = append(s.open[:at], s.open[at+1:]...)
-			return
-		}
-	}
-}
-
-func (s *server) find(number uint64) *connection {
-	for at := len(s.open) - 1; at >= 0; at-- {
-		if s.open[at].number == number {
-			return s.open[at]
-		}
-	}
-	return nil
-}
-
-// play plays lines of a script; the last answer is returned.
-func (s *server) play(lines ...string) (Answer, error) {
-	if s.err != nil {
-		return Answer{}, s.err
-	}
-	s.stirs++
-	answers, err := s.pipe.ask(lines...)
-	if err != nil {
-		s.err = err
-		return Answer{}, err
-	}
-	for at, answer := range answers {
-		if answer.Bad == "" {
-			s.script = append(s.script, lines[at])
-		}
-		if why := answer.Bad + answer.Refused; why != "" {
-			return answer, fmt.Errorf("%w: %s", ErrRefused, why)
-		}
-		s.deliver(answer)
-	}
-	s.moved.Broadcast()
-	return answers[len(answers)-1], nil
-}
-
-func (s *server) deliver(answer Answer) {
-	if answer.Opened > s.highest {
-		s.highest = answer.Opened
-	}
-	for _, out := range answer.Out {
-		if c := s.find(out.Connection); c != nil {
-			if c.isTold {
-				s.told++
-			}
-			c.isTold = true
-			c.waiting = append(c.waiting, out.Bytes...)
-		}
-	}
-	for _, number := range answer.Ended {
-		if c := s.find(number); c != nil {
-			c.ended = true
-			s.hasEnded = s.hasEnded || c.isWatch
-			s.drop(c)
-		}
-	}
+// isEqual is whether two disturbances are one; what can't be compared is another.
+func isEqual(one, other Disturbance) (isSo bool) {
+	defer func() { _ = recover() }() // an interface within one may hold what can't be compared
+	kind := reflect.TypeOf(one)
+	return kind == reflect.TypeOf(other) && kind.Comparable() && one == other
 }

@@ -7,7 +7,6 @@ package reconcile
 
 import (
 	"context"
-	"encoding/json"
 	"fmt"
 	"net/http"
 	"strings"
@@ -24,7 +23,7 @@ import (
 	"k8s.io/client-go/dynamic/dynamicinformer"
 	"k8s.io/client-go/rest"
 	"k8s.io/client-go/tools/cache"
-	"nazhuvem"
+	"nazhuvem.example/nazhuvem"
 )
 
 const (
@@ -69,19 +68,23 @@ func (c *controller) reconcileAll(ctx context.Context) error {
 	return err
 }
 
-// follow runs a controller until nothing changes any more.
-func follow(ctx context.Context, hub *nazhuvem.Hub, transport http.RoundTripper, isCareful bool) error {
+// begin starts a controller with its informer, which has listed then.
+func begin(ctx context.Context, transport http.RoundTripper, isCareful bool) (*controller, error) {
 	client, err := dynamic.NewForConfig(&rest.Config{Host: "http://hub", Transport: transport, QPS: -1})
 	if err != nil {
-		return err
+		return nil, err
 	}
 	factory := dynamicinformer.NewDynamicSharedInformerFactory(client, 0)
 	informer := factory.ForResource(widgets)
-	it := &controller{client.Resource(widgets), informer.Lister(), isCareful}
 	go informer.Informer().Run(ctx.Done())
 	if !cache.WaitForCacheSync(ctx.Done(), informer.Informer().HasSynced) {
-		return ctx.Err()
+		return nil, ctx.Err()
 	}
+	return &controller{client.Resource(widgets), informer.Lister(), isCareful}, nil
+}
+
+// settle lets a controller reconcile until nothing changes any more.
+func settle(ctx context.Context, hub *nazhuvem.Hub, it *controller) error {
 	return hub.Settle(ctx, func() error {
 		if err := nazhuvem.Until(ctx, func() bool { return hub.Watches() > 0 }); err != nil {
 			return err
@@ -95,43 +98,41 @@ func follow(ctx context.Context, hub *nazhuvem.Hub, transport http.RoundTripper,
 // apply applies a number of replicas by alice.
 func apply(hub *nazhuvem.Hub, replicas int) {
 	body := fmt.Sprintf(`{"apiVersion":"demo.example/v1","kind":"Widget","spec":{"replicas":%d}}`, replicas)
-	if status, reply := hub.Apply("alice", path+"/w", body, false); status/100 != 2 {
-		hub.Fatalf("%d %s", status, reply)
-	}
+	hub.Apply("alice", path+"/w", body, false)
 }
 
-// scenario has one widget, which changes while the controller follows it. Unless it was
+// scenario has one widget, which changes once the controller has settled. Unless it was
 // deleted its status is right in the end.
 func scenario(isCareful bool) func(*nazhuvem.Hub) {
 	return func(hub *nazhuvem.Hub) {
 		apply(hub, 1)
 		isChanged := false
 		hub.Run(func(ctx context.Context, transport http.RoundTripper) error {
-			err := follow(ctx, hub, transport, isCareful)
-			if err == nil && !isChanged {
-				isChanged = true
-				apply(hub, 2)
-				err = follow(ctx, hub, transport, isCareful)
+			it, err := begin(ctx, transport, isCareful)
+			if err != nil {
+				return err
 			}
-			return err
+			if err := settle(ctx, hub, it); err != nil || isChanged {
+				return err
+			}
+			isChanged = true
+			apply(hub, 2)
+			return settle(ctx, hub, it)
 		})
-		status, reply := hub.Request("GET", path+"/w", nil)
-		if status == http.StatusOK && !isReady(reply) {
-			hub.Errorf("not all replicas are ready: %s", reply)
+		var widget struct {
+			Spec   struct{ Replicas int }
+			Status struct{ Ready int }
+		}
+		if hub.Get(path+"/w", &widget) && widget.Status.Ready != widget.Spec.Replicas {
+			hub.Errorf("%d of %d replicas are ready", widget.Status.Ready, widget.Spec.Replicas)
 		}
 	}
 }
 
-func isReady(reply []byte) bool {
-	var widget struct {
-		Spec   struct{ Replicas int }
-		Status struct{ Ready int }
-	}
-	return json.Unmarshal(reply, &widget) == nil && widget.Status.Ready == widget.Spec.Replicas
-}
+// A loaded machine may read a line only after Rest, so that a step more is done: WithAnyOrder.
 
 func TestTheRaceIsFound(t *testing.T) {
-	failure, _, err := nazhuvem.Search(types, scenario(false), nazhuvem.Deletions)
+	failure, _, err := nazhuvem.Search(types, scenario(false), nazhuvem.Deletions, nazhuvem.WithAnyOrder())
 	if err != nil || failure == nil || !strings.Contains(failure.Said, "not found") {
 		t.Fatal(failure, err)
 	}
@@ -139,5 +140,5 @@ func TestTheRaceIsFound(t *testing.T) {
 }
 
 func TestNoScheduleFails(t *testing.T) {
-	nazhuvem.Explore(t, types, scenario(true))
+	nazhuvem.Explore(t, types, scenario(true), nazhuvem.WithAnyOrder())
 }
