@@ -35,10 +35,7 @@ func (c *counter) step() error {
 		}
 	}
 	c.hub.Pump()
-	// Where the machine is busy a sleep is longer than it should be, and ends one rest too early.
-	for range [3]bool{} {
-		c.hub.Rest(time.Millisecond)
-	}
+	c.hub.Rest(time.Millisecond)
 	var lines []watchLine
 	if c.watch != nil {
 		var isOver bool

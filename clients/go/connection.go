@@ -27,7 +27,7 @@ type connection struct {
 	ended   bool
 	// failed is why nothing more can be read, if that isn't the end.
 	failed error
-	// isRead tells that a reader waits for bytes.
+	// isRead tells that a reader waits for bytes, or has had no line yet.
 	isRead bool
 	// whole is its reply, where that ended with the request.
 	whole []byte
@@ -84,6 +84,9 @@ func (c *connection) response(request *http.Request) (*http.Response, error) {
 	if err != nil {
 		return nil, err
 	}
+	c.server.lock.Lock()
+	defer c.server.lock.Unlock()
+	c.isRead = true
 	response.Body = body{response.Body, c}
 	return response, nil
 }

@@ -8,6 +8,7 @@ import (
 	"io"
 	"net/http"
 	"strings"
+	"sync/atomic"
 	"testing"
 	"time"
 )
@@ -150,6 +151,32 @@ func TestWatchEndsWithItsContext(t *testing.T) {
 	}
 	if hub.Watches() != 0 {
 		t.Fatal("the hub has not heard of it")
+	}
+}
+
+// TestRestWaitsForReaders is about a machine so busy that a sleep takes longer than the rest asked for.
+func TestRestWaitsForReaders(t *testing.T) {
+	hub := Start(t, types)
+	request, err := http.NewRequest("GET", "http://hub"+widgets+"?watch=true", nil)
+	if err != nil {
+		t.Fatal(err)
+	}
+	response, err := hub.RoundTrip(request)
+	if err != nil {
+		t.Fatal(err)
+	}
+	defer response.Body.Close()
+	hub.Apply("alice", widgets+"/w", scaled(1), false)
+	hub.Pump()
+	var isRead atomic.Bool
+	go func() {
+		time.Sleep(20 * time.Millisecond)
+		isRead.Store(true)
+		_, _ = io.Copy(io.Discard, response.Body)
+	}()
+	hub.Rest(time.Nanosecond)
+	if !isRead.Load() {
+		t.Fatal("it rests while a line isn't read")
 	}
 }
 

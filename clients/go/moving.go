@@ -139,14 +139,31 @@ func (h *Hub) Event(line any) (Answer, error) {
 	return h.play(text)
 }
 
+// unreadFor is how long a watch may have something to read, or a reader that doesn't come
+// back for more, while nothing happens, until Rest fails.
+const unreadFor = 30 * time.Second
+
 // Rest waits until nothing has happened on the hub for so long: no request came, and what
 // was written on watches has been read. Use it after a Pump where the controller has
-// goroutines of its own.
+// goroutines of its own. A watch that nobody reads any more, and whose body isn't closed, is a
+// failure of the test.
 func (h *Hub) Rest(quiet time.Duration) {
-	before := h.stirred()
-	for began := time.Now(); time.Since(began) < quiet; time.Sleep(quiet / 10) {
-		if after := h.stirred(); after != before || !h.isRead() {
-			began, before = time.Now(), after
+	h.t.Helper()
+	seen, stirred := h.stirred(), time.Now()
+	for rested := stirred; ; {
+		time.Sleep(quiet / 10)
+		now := time.Now()
+		if after := h.stirred(); after != seen {
+			seen, stirred, rested = after, now, now
+		}
+		if unread := h.unread(); unread != nil {
+			rested = now
+			if now.Sub(stirred) > unreadFor {
+				h.Fatalf("nobody reads the watch on connection %d any more, and its body isn't closed", unread.number)
+			}
+		}
+		if now.Sub(rested) >= quiet {
+			return
 		}
 	}
 }
@@ -158,17 +175,17 @@ func (s *server) stirred() uint64 {
 	return s.stirs
 }
 
-// isRead tells whether the reader of each watch has read all that was written on it, and
-// waits for more.
-func (s *server) isRead() bool {
+// unread is a watch whose reader hasn't read all that was written on it, or hasn't come back
+// for more; nil where there is none.
+func (s *server) unread() *connection {
 	s.lock.Lock()
 	defer s.lock.Unlock()
 	for _, c := range s.open {
 		if !c.isRead || len(c.waiting) > 0 {
-			return false
+			return c
 		}
 	}
-	return true
+	return nil
 }
 
 // send opens a connection on which these bytes come in one piece.
