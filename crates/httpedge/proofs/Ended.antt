@@ -95,13 +95,5 @@ does_in old new e (Err f) handles s is =
 -- ---- the call that says nothing of what it did
 
 pub same_fault : (A B : Type 0) (f : HubFault) → outcome_of {A = A} (Err f) ≡ outcome_of {A = B} (Err f)
-same_fault A B fault.IdNotAbove = refl
-same_fault A B fault.UnknownId = refl
-same_fault A B fault.NoLines = refl
-same_fault A B fault.TickBack = refl
-same_fault A B fault.CompactionRefused = refl
-same_fault A B (fault.NotTypes why) = refl
-same_fault A B fault.NotLawful = refl
-same_fault A B fault.TooFewRevisions = refl
-same_fault A B fault.Memory = refl
-same_fault A B fault.Store = refl
+same_fault A B (fault.Refused why) = refl
+same_fault A B (fault.Failed what) = refl

@@ -21,7 +21,8 @@ use Rattle.httpedge.specs.declared.effect.Effect.{Effect}
 use Rattle.httpedge.specs.declared.effect.Effect.TheVariants as effect
 use Rattle.httpedge.specs.declared.fault.HubFault.{HubFault}
 use Rattle.httpedge.specs.declared.fault.HubFault.TheVariants as fault
-use Rattle.httpedge.specs.Effects.{no_change}
+use Rattle.httpedge.specs.declared.fault.HubRefusal.TheVariants as hub_refusal
+use Rattle.httpedge.specs.Effects.{no_change, unasked}
 use Rattle.httpedge.specs.Connections.{Connection, Phase, waiting, watching, ended, gone, has_ended, is_open, untaken_in, with_phase, with_taken}
 use Rattle.httpedge.specs.ConnectionViews.{BecomesAt, OpenIdsAfter, Forgets, ConnectionRepresents, IsApart, IsAt, IsFresh, IsSame, Opens, PutAt, found, has_ended_in, held_or, is_open_in, is_waiting_in, left, out_in, closed_by, had_ended_if_over_in, had_ended_by_ids}
 use Rattle.httpedge.specs.HubViews.{outcome_of, refusal_in, refused}
@@ -153,7 +154,7 @@ none_left types out c h false is over holds = absurd (none_some over)
 
 over_holds : (types : List ServedShape) (d : conns.Connection) (c : Connection) (h : Bool) → had_ended_if_over_in d ≡ Some h → ConnectionRepresents types d c → ConnectionRepresents types (conn.Closed h) c
 over_holds types (conn.Head prefix) c h over holds = absurd (none_some over)
-over_holds types (conn.Body p) c h over holds = absurd (none_some over)
+over_holds types (conn.Body prefix p) c h over holds = absurd (none_some over)
 over_holds types (conn.Watch w out) c h over holds = absurd (none_some over)
 over_holds types (conn.Ended out) c h over holds = none_left types out c h (length (left out) == 0) refl over holds
 over_holds types (conn.Closed had_ended) c h over (closed, had, none) = (closed, had ∙ some_of over, none)
@@ -219,7 +220,7 @@ no_id_there f id q none = go (eq_by_cmp nat_cmp id q) (tied_same id q)
 -- ---- a change of one that is over
 
 receives_closed : (types : List ServedShape) (m : History) (last_tick : ℕ) (c : Connection) (st : Phase) (bytes : List ℕ) (shared : Shared) → is_open st ≡ false → SharedRepresents shared types m
-    → Receives types m last_tick c st bytes c no_change shared
+    → Receives types m last_tick c st bytes c (unasked no_change) shared
 receives_closed types m last_tick c (waiting prefix) bytes shared closed represents = absurd (wrong (sym closed))
 receives_closed types m last_tick c (watching w) bytes shared closed represents = absurd (wrong (sym closed))
 receives_closed types m last_tick c ended bytes shared closed represents = (refl, refl, represents)
@@ -227,10 +228,10 @@ receives_closed types m last_tick c (gone had_ended) bytes shared closed represe
 
 -- what it makes of it, and that it is over
 makes_over : (types : List ServedShape) (m : History) (last_tick : ℕ) (what : changes.ConnectionInput) (c : Connection) (h : Bool) (shared : Shared) → SharedRepresents shared types m → ConnectionRepresents types (conn.Closed h) c
-    → (c' : Connection) × Makes types m last_tick what c c' no_change shared × ConnectionRepresents types (conn.Closed h) c'
+    → (c' : Connection) × Makes types m last_tick what c c' (unasked no_change) shared × ConnectionRepresents types (conn.Closed h) c'
 makes_over types m last_tick (change.Bytes bytes) c h shared represents holds = (c, receives_closed types m last_tick c c.phase bytes.now shared holds.0 represents, holds)
 makes_over types m last_tick (change.Lines max) c h shared represents holds =
-    (c, (sym (turn_closed (pumped m max) c c.phase holds.0), idle_did (pumped m max) c c.phase refl (closed_watches c.phase holds.0), represents), holds)
+    (c, (sym (turn_closed (pumped m max) c c.phase holds.0), ap unasked (idle_did (pumped m max) c c.phase refl (closed_watches c.phase holds.0)), represents), holds)
 makes_over types m last_tick change.Gone c h shared represents holds = (with_phase c (gone (has_ended c.phase)), (refl, refl, represents), (refl, holds.1, refl))
 
 -- one that isn't held is over
@@ -246,7 +247,7 @@ passes types m last_tick what id d c k shared represents none (at, there, apart)
     (sym (ap (λ (o : Option conns.Connection). held_or o (closed_by (is_in k.ended.ranges id) (is_in k.cut.ranges id))) none) ∙ at) in
     let made = makes_over types m last_tick what c over.0 shared represents (subst (λ (x : conns.Connection). ConnectionRepresents types x c) over.1 holds) in (
       made.0,
-      no_change,
+      unasked no_change,
       made.1,
       refl,
       record {
@@ -288,7 +289,7 @@ Answer = Result Effect HubFault
 
 -- nothing becomes of one that is over
 abbrev nothing_if : Bool → Answer
-nothing_if b = cond b (Ok effect.Nothing) (Err fault.UnknownId)
+nothing_if b = cond b (Ok effect.Nothing) (Err (fault.Refused hub_refusal.UnknownId))
 
 abbrev pub Passes : TheConnections → ℕ → Answer → Type 0
 Passes k id r = r ≡ nothing_if (is_some (had_ended_by_ids (is_in k.ended.ranges id) (is_in k.cut.ranges id)))

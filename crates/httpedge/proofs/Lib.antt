@@ -2,6 +2,7 @@ pub mod Alike
 pub mod Adding
 pub mod Ranging
 pub mod Connected
+pub mod Requested
 pub mod Effects
 pub mod Counting
 pub mod Forgetting

@@ -14,8 +14,8 @@ use Rattle.requests.specs.Refusals.{as_denied, too_many_connections}
 use Rattle.requests.specs.Replies.{refusal_reply}
 use Rattle.httpedge.specs.declared.connection.Connection as conns
 use Rattle.httpedge.specs.ChangeViews.{MakesRepresented, Receives}
-use Rattle.httpedge.specs.declared.effect.Change.{Change}
-use Rattle.httpedge.specs.Effects.{answer_change, change_between, decided_status, lines_by, no_change, opening_status}
+use Rattle.httpedge.specs.declared.effect.Done.{Done}
+use Rattle.httpedge.specs.Effects.{answer_change, change_between, decided_status, lines_by, no_change, opening_status, unasked}
 use Rattle.httpedge.specs.Connections.{Connection, Connections, Phase, waiting, watching, ended, gone, has_ended, is_waiting, max_open, new_connection, open_count, with_phase, with_written}
 use Rattle.httpedge.specs.ConnectionViews.{ConnectionRepresents, ReceivesRepresentedBy, has_ended_in, is_watching_in, received_change, waiting_for}
 use Rattle.httpedge.specs.declared.event.ConnectionInput.TheVariants as change
@@ -32,8 +32,8 @@ wrong : false ≡ true → ⊥
 wrong e = cc
 
 -- bytes make nothing of one that doesn't wait for them
-pub received_idle : (types : List ServedShape) (m : History) (last_tick : ℕ) (c : Connection) (st : Phase) (bytes : List ℕ) (d : conns.Connection) (did : Change) (api : Api) → is_waiting st ≡ false
-    → ConnectionRepresents types d c → did ≡ no_change → ApiRepresents api types m → ReceivesRepresentedBy types m last_tick c st bytes d did api
+pub received_idle : (types : List ServedShape) (m : History) (last_tick : ℕ) (c : Connection) (st : Phase) (bytes : List ℕ) (d : conns.Connection) (did : Done) (api : Api) → is_waiting st ≡ false
+    → ConnectionRepresents types d c → did ≡ unasked no_change → ApiRepresents api types m → ReceivesRepresentedBy types m last_tick c st bytes d did api
 received_idle types m last_tick c (waiting prefix) bytes d did api idle holds none represents = absurd (wrong (sym idle))
 received_idle types m last_tick c (watching w) bytes d did api idle holds none represents = (holds, none, represents)
 received_idle types m last_tick c ended bytes d did api idle holds none represents = (holds, none, represents)
@@ -49,28 +49,31 @@ later types m last_tick prefix bytes (accepted call) = refl
 pub serves : (shared : Shared) (types : List ServedShape) (m : History) → shared.last ≡ None → ApiRepresents shared.api types m → SharedRepresents shared types m
 serves shared types m none represents = (represents, subst (λ (o : Option CachedTurn). IfSome o (IsTurnFrom m)) (sym none) tt)
 
-pub received_makes : (types : List ServedShape) (m : History) (last_tick : ℕ) (c : Connection) (st : Phase) (bytes : List ℕ) (d : conns.Connection) (did : Change) (shared : Shared) → shared.last ≡ None
+pub received_makes : (types : List ServedShape) (m : History) (last_tick : ℕ) (c : Connection) (st : Phase) (bytes : List ℕ) (d : conns.Connection) (did : Done) (shared : Shared) → shared.last ≡ None
     → ReceivesRepresentedBy types m last_tick c st bytes d did shared.api → (c' : Connection) × Receives types m last_tick c st bytes c' did shared × ConnectionRepresents types d c'
-received_makes types m last_tick c (waiting prefix) bytes d change shared none (is, (decision, asks, holds, did, represents)) = (
+received_makes types m last_tick c (waiting prefix) bytes d done shared none (is, (decision, asks, holds, (did, asked), represents)) = (
   connection_after types m last_tick c (prefix ++ bytes) decision,
   (
     decision,
     asks,
     refl,
-    did ∙ ap (λ (x : Connection). change_between (Some new_connection) (Some x) 0 (decided_status types m decision)) (later types m last_tick prefix (prefix ++ bytes) decision)
-        ∙ sym (ap (λ (x : Connection). received_change types m last_tick x (prefix ++ bytes) decision) is),
+    (
+      did ∙ ap (λ (x : Connection). change_between (Some new_connection) (Some x) 0 (decided_status types m decision)) (later types m last_tick prefix (prefix ++ bytes) decision)
+          ∙ sym (ap (λ (x : Connection). received_change types m last_tick x (prefix ++ bytes) decision) is),
+      asked,
+    ),
     serves shared types (machine_after types m decision) none represents,
   ),
   subst (λ (x : Connection). ConnectionRepresents types d x)
       (later types m last_tick prefix (prefix ++ bytes) decision ∙ sym (ap (λ (x : Connection). connection_after types m last_tick x (prefix ++ bytes) decision) is)) holds,
 )
-received_makes types m last_tick c (watching w) bytes d change shared none (holds, did, represents) = (c, (refl, did, serves shared types m none represents), holds)
-received_makes types m last_tick c ended bytes d change shared none (holds, did, represents) = (c, (refl, did, serves shared types m none represents), holds)
-received_makes types m last_tick c (gone had_ended) bytes d change shared none (holds, did, represents) = (c, (refl, did, serves shared types m none represents), holds)
+received_makes types m last_tick c (watching w) bytes d done shared none (holds, did, represents) = (c, (refl, did, serves shared types m none represents), holds)
+received_makes types m last_tick c ended bytes d done shared none (holds, did, represents) = (c, (refl, did, serves shared types m none represents), holds)
+received_makes types m last_tick c (gone had_ended) bytes d done shared none (holds, did, represents) = (c, (refl, did, serves shared types m none represents), holds)
 
 -- its peer goes
 pub goes_held : (types : List ServedShape) (m : History) (last_tick : ℕ) (c : Connection) (d e : conns.Connection) (shared : Shared) → SharedRepresents shared types m → ConnectionRepresents types d c
-    → ConnectionRepresents types e (with_phase c (gone (has_ended_in d))) → MakesRepresented types m last_tick change.Gone c e no_change shared
+    → ConnectionRepresents types e (with_phase c (gone (has_ended_in d))) → MakesRepresented types m last_tick change.Gone c e (unasked no_change) shared
 goes_held types m last_tick c d e shared represents holds went =
     (with_phase c (gone (has_ended c.phase)), (refl, refl, represents), subst (λ (b : Bool). ConnectionRepresents types e (with_phase c (gone b))) (same_ended types d c holds) went)
 

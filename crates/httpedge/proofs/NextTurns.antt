@@ -8,7 +8,7 @@ use Rattle.httpedge.specs.declared.connection.Connection.TheVariants as conn
 use Rattle.httpedge.specs.Connections.{Connection, Phase, waiting, watching, ended, gone, is_open}
 use Rattle.httpedge.specs.ConnectionViews.{ConnectionRepresents, ConnectionRepresentsAt, closed_by, phase_in}
 use Rattle.httpedge.specs.NextTurns.{next_turn, turn_in}
-use Rattle.httpedge.specs.Steps.{Event, State}
+use Rattle.httpedge.specs.Steps.{State}
 
 -- one that isn't open has none
 closed_turn : (id current tick : ℕ) (st : Phase) → is_open st ≡ false → turn_in id current tick st ≡ None
@@ -25,7 +25,7 @@ turn_over id current tick false false = refl
 
 same_turn : (types : List ServedShape) (id current tick : ℕ) (d : conns.Connection) (c : Connection) → ConnectionRepresents types d c → turn_in id current tick (phase_in d) ≡ turn_in id current tick c.phase
 same_turn types id current tick (conn.Head prefix) c is = sym (ap (λ (x : Connection). turn_in id current tick x.phase) is)
-same_turn types id current tick (conn.Body p) c (prefix, is, awaits) = sym (ap (λ (x : Connection). turn_in id current tick x.phase) is)
+same_turn types id current tick (conn.Body prefix p) c (is, awaits) = sym (ap (λ (x : Connection). turn_in id current tick x.phase) is)
 same_turn types id current tick (conn.Watch w out) c (is, rest, low) = sym (ap (turn_in id current tick) is)
 same_turn types id current tick (conn.Ended out) c (is, rest) = sym (ap (turn_in id current tick) is)
 same_turn types id current tick (conn.Closed had_ended) c (closed, had, none) = sym (closed_turn id current tick c.phase closed)

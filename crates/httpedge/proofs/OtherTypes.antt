@@ -38,6 +38,7 @@ use Rattle.requests.specs.Bodies.{body_in, checked_media, path_of}
 use Rattle.requests.specs.Decision.{undecided, refused, accepted, and_then, decided_by}
 use Rattle.requests.specs.Heads.{HeadDecision, Request}
 use Rattle.requests.specs.Pendings.{Awaits, pending_call}
+use Rattle.requests.specs.ReadBufferViews.{buffered}
 use Rattle.httpedge.specs.declared.connection.Connection as conns
 use Rattle.httpedge.specs.declared.connection.Connection.TheVariants as conn
 use Rattle.httpedge.specs.declared.connections.Connections.{Connections as TheConnections}
@@ -167,13 +168,13 @@ pub same_asks : (types others : List ServedShape) → LastsIn types others → (
 same_asks types others lasts bytes decision (head, reads, is) = (head, reads, is ∙ sym (same_asked types others lasts head))
 
 same_awaits : (types others : List ServedShape) → LastsIn types others → (prefix : List ℕ) (p : pendings.Pending) → Awaits types prefix p → Awaits others prefix p
-same_awaits types others lasts prefix p awaits = λ more. same_asks types others lasts (prefix ++ more) (pending_call p (p.body.items ++ more)) (awaits more)
+same_awaits types others lasts prefix p awaits = λ more. same_asks types others lasts (prefix ++ more) (pending_call p (prefix ++ more)) (awaits more)
 
 -- ---- the connections are held by both
 
 same_holds : (types others : List ServedShape) → LastsIn types others → (d : conns.Connection) (c : Connection) → ConnectionRepresents types d c → ConnectionRepresents others d c
 same_holds types others lasts (conn.Head prefix) c holds = holds
-same_holds types others lasts (conn.Body p) c (prefix, is, awaits) = (prefix, is, same_awaits types others lasts prefix p awaits)
+same_holds types others lasts (conn.Body prefix p) c (is, awaits) = (is, same_awaits types others lasts (buffered prefix) p awaits)
 same_holds types others lasts (conn.Watch w out) c holds = holds
 same_holds types others lasts (conn.Ended out) c holds = holds
 same_holds types others lasts (conn.Closed had_ended) c holds = holds

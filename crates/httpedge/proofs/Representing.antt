@@ -19,11 +19,11 @@ use Rattle.revstore.specs.declared.fault.CompactFault.{CompactFault}
 use Rattle.revstore.specs.declared.fault.CompactFault.TheVariants as broken
 use Rattle.revtable.specs.declared.fault.Fault.{Fault as TheirFault}
 use Rattle.verbs.specs.declared.fault.Fault.{Fault}
-use Rattle.verbs.specs.declared.fault.Fault.TheVariants as failed
 use Rattle.httpedge.specs.declared.connection.Connection as conns
 use Rattle.httpedge.specs.declared.connection.Connection.TheVariants as conn
 use Rattle.httpedge.specs.declared.connections.Connections.{Connections as TheConnections}
 use Rattle.httpedge.specs.declared.effect.Change.{Change}
+use Rattle.httpedge.specs.declared.effect.Done as dones
 use Rattle.httpedge.specs.declared.effect.Effect.{Effect}
 use Rattle.httpedge.specs.declared.effect.Effect.TheVariants as effect
 use Rattle.httpedge.specs.declared.event.ConnectionInput as changes
@@ -38,16 +38,17 @@ use Rattle.requests.specs.Asks.{CallDecision}
 use Rattle.requests.specs.Decision.{undecided}
 use Rattle.httpedge.specs.ConnectionViews.{BecomesAt, ConnectionRepresents, ConnectionRepresentsAt, IsAt, IsFresh, IsSame, Opens, PutAt, PartsRepresent, found, has_ended_in, held_or, is_above, is_open_in, is_waiting_in, is_watching_in, left, out_in, closed_by}
 use Rattle.httpedge.specs.FaultViews.{hub_fault_of}
-use Rattle.httpedge.specs.Effects.{Does, IsEffect, change_between, decided_status, effect_on, lines_by, no_change, opening_status}
+use Rattle.httpedge.specs.Effects.{Does, IsEffect, answered_bytes, change_between, decided_status, effect_on, lines_by, no_change, opening_status, unasked}
 use Rattle.httpedge.specs.HubViews.{Handles, StepsOrRefuses, HubRepresents, Outcome, outcome_of, refusal_in}
 use Rattle.httpedge.specs.HubViews as outcome
 use Rattle.httpedge.specs.IdViews.{is_in}
 use Rattle.httpedge.specs.declared.hub.Hub.{Hub}
-use Rattle.httpedge.specs.Runs.{AsksIf, all_bytes}
-use Rattle.httpedge.specs.Steps.{Event, Refusal, State, id_not_above, unknown_id, no_lines, compaction_refused, opens, comes, goes, pumps, compacts, after_turn, by_connection, connection_after, killed, machine_after, opening, received, received_by, refusal, start, unless_refused, with_bytes_taken, with_connection, with_connections, with_machine, with_turn, RunsOutOfMemory}
+use Rattle.httpedge.specs.Runs.{AsksIf, all_bytes, bytes_at}
+use Rattle.httpedge.specs.Steps.{Event, Refusal, State, id_not_above, unknown_id, no_lines, compaction_refused, opens, comes, goes, pumps, compacts, after_turn, by_connection, killed, machine_after, opening, received_by, refusal, start, unless_refused, with_bytes_taken, with_connection, with_connections, with_machine, with_turn, RunsOutOfMemory}
 use Rattle.httpedge.specs.Watches.{Turn, Watch, pumped}
 use Rattle.httpedge.proofs.Connected.{Entries, ids, itself, new_put, new_still, tied_same, unknown}
 use Rattle.httpedge.proofs.Effects.{between_same, no_effect, one_effect, same_between}
+use Rattle.httpedge.proofs.Requested.{answer_speaks}
 use Rattle.httpedge.proofs.Taking.{left_after, out_taken}
 
 abbrev pub Found : Type 0
@@ -72,35 +73,35 @@ closed_watches (gone had_ended) is = refl
 
 pub same_open : (types : List ServedShape) (d : conns.Connection) (c : Connection) → ConnectionRepresents types d c → is_open_in d ≡ is_open c.phase
 same_open types (conn.Head prefix) c is = sym (ap (λ (x : Connection). is_open x.phase) is)
-same_open types (conn.Body p) c (prefix, is, awaits) = sym (ap (λ (x : Connection). is_open x.phase) is)
+same_open types (conn.Body prefix p) c (is, awaits) = sym (ap (λ (x : Connection). is_open x.phase) is)
 same_open types (conn.Watch w out) c (is, rest, low) = sym (ap is_open is)
 same_open types (conn.Ended out) c (is, rest) = sym (ap is_open is)
 same_open types (conn.Closed had_ended) c (closed, had, none) = sym closed
 
 pub same_waiting : (types : List ServedShape) (d : conns.Connection) (c : Connection) → ConnectionRepresents types d c → is_waiting_in d ≡ is_waiting c.phase
 same_waiting types (conn.Head prefix) c is = sym (ap (λ (x : Connection). is_waiting x.phase) is)
-same_waiting types (conn.Body p) c (prefix, is, awaits) = sym (ap (λ (x : Connection). is_waiting x.phase) is)
+same_waiting types (conn.Body prefix p) c (is, awaits) = sym (ap (λ (x : Connection). is_waiting x.phase) is)
 same_waiting types (conn.Watch w out) c (is, rest, low) = sym (ap is_waiting is)
 same_waiting types (conn.Ended out) c (is, rest) = sym (ap is_waiting is)
 same_waiting types (conn.Closed had_ended) c (closed, had, none) = sym (closed_waits c.phase closed)
 
 pub same_watching : (types : List ServedShape) (d : conns.Connection) (c : Connection) → ConnectionRepresents types d c → is_watching_in d ≡ is_watching c.phase
 same_watching types (conn.Head prefix) c is = sym (ap (λ (x : Connection). is_watching x.phase) is)
-same_watching types (conn.Body p) c (prefix, is, awaits) = sym (ap (λ (x : Connection). is_watching x.phase) is)
+same_watching types (conn.Body prefix p) c (is, awaits) = sym (ap (λ (x : Connection). is_watching x.phase) is)
 same_watching types (conn.Watch w out) c (is, rest, low) = sym (ap is_watching is)
 same_watching types (conn.Ended out) c (is, rest) = sym (ap is_watching is)
 same_watching types (conn.Closed had_ended) c (closed, had, none) = sym (closed_watches c.phase closed)
 
 pub same_ended : (types : List ServedShape) (d : conns.Connection) (c : Connection) → ConnectionRepresents types d c → has_ended_in d ≡ has_ended c.phase
 same_ended types (conn.Head prefix) c is = sym (ap (λ (x : Connection). has_ended x.phase) is)
-same_ended types (conn.Body p) c (prefix, is, awaits) = sym (ap (λ (x : Connection). has_ended x.phase) is)
+same_ended types (conn.Body prefix p) c (is, awaits) = sym (ap (λ (x : Connection). has_ended x.phase) is)
 same_ended types (conn.Watch w out) c (is, rest, low) = sym (ap has_ended is)
 same_ended types (conn.Ended out) c (is, rest) = sym (ap has_ended is)
 same_ended types (conn.Closed had_ended) c (closed, had, none) = sym had
 
 pub same_out : (types : List ServedShape) (d : conns.Connection) (c : Connection) → ConnectionRepresents types d c → out_in d ≡ out_of c
 same_out types (conn.Head prefix) c is = sym (ap out_of is)
-same_out types (conn.Body p) c (prefix, is, awaits) = sym (ap out_of is)
+same_out types (conn.Body prefix p) c (is, awaits) = sym (ap out_of is)
 same_out types (conn.Watch w out) c (is, rest, low) = sym rest ∙ sym (ap (λ (st : Phase). untaken_in st (drop c.taken c.written)) is)
 same_out types (conn.Ended out) c (is, rest) = sym rest ∙ sym (ap (λ (st : Phase). untaken_in st (drop c.taken c.written)) is)
 same_out types (conn.Closed had_ended) c (closed, had, none) = sym none
@@ -254,7 +255,7 @@ opens_unrefused s shared k id is above = ap (λ (b : Bool). cond b None (Some id
 
 pub opens_well : (s : State) (id : ℕ) (shared : Shared) (old new : TheConnections) (d : conns.Connection) (did : Change) → PartsRepresent shared old s
     → is_above old.highest id ≡ true → ConnectionRepresents s.types d (opening s.connections) → did ≡ change_between None (Some (opening s.connections)) 0 (opening_status s.connections)
-    → Opens id d old new → Done s (opens id) (effect_on id did) shared new
+    → Opens id d old new → Done s (opens id) (effect_on id (unasked did)) shared new
 opens_well s id shared old new d did held above holds did_is opened =
     let c = opening s.connections in
     let isnew : is_new s.connections id ≡ true = held.highest_is id ∙ above in
@@ -264,8 +265,8 @@ opens_well s id shared old new d did held above holds did_is opened =
         undecided,
         refl,
         sym (ap (λ (b : Bool). unless_refused (cond b None (Some id_not_above)) s t) isnew),
-        one_effect s s.machine (opens id) undecided id None c 0 (opening_status s.connections) did (unknown s.connections id (fin.get s.connections id) refl isnew) refl
-            (its_id id (opening_status s.connections) None) (λ q isnt. (refl, other_id id (opening_status s.connections) None q isnt)) did_is,
+        one_effect s s.machine (opens id) undecided id None c 0 (opening_status s.connections) (unasked did) (unknown s.connections id (fin.get s.connections id) refl isnew) refl
+            (its_id id (opening_status s.connections) None) (λ q isnt. (refl, other_id id (opening_status s.connections) None q isnt)) did_is refl tt,
       ),
       record {
         machine = held.machine;
@@ -330,33 +331,38 @@ idles s id shared shared' old new c c' held serves got same becomes =
 
 -- ---- bytes that come
 
+-- all the bytes of a connection, where it waits for them
+waiting_bytes : (s : State) (id : ℕ) (bytes : List ℕ) (c : Connection) (st : Phase) → fin.get s.connections id ≡ Some c → c.phase ≡ st → bytes_at s (comes id bytes) ≡ all_bytes st bytes
+waiting_bytes s id bytes c st got represents = ap (option_and_then (λ (y : Connection). all_bytes y.phase bytes)) got ∙ ap (λ (p : Phase). all_bytes p bytes) represents
+
 does_on : (s t : State) (id : ℕ) (bytes : List ℕ) (c : Connection) (st : Phase) (x : Effect) (decision : CallDecision) → fin.get s.connections id ≡ Some c → c.phase ≡ st
     → AsksIf s (all_bytes st bytes) decision → t ≡ received_by s id c st bytes decision → IsEffect s (comes id bytes) decision t x → Does s (comes id bytes) t x
 does_on s t id bytes c st x decision got represents asks is effect = (
   decision,
-  subst (λ (o : Option (List ℕ)). AsksIf s o decision)
-      (sym (ap (option_and_then (λ (y : Connection). all_bytes y.phase bytes)) got ∙ ap (λ (p : Phase). all_bytes p bytes) represents)) asks,
+  subst (λ (o : Option (List ℕ)). AsksIf s o decision) (sym (waiting_bytes s id bytes c st got represents)) asks,
   is ∙ sym (ap (λ (o : Option Connection). unless_refused (cond (is_some o) None (Some unknown_id)) s (by_connection s o (λ y. received_by s id y y.phase bytes decision))) got
       ∙ ap (λ (p : Phase). received_by s id c p bytes decision) represents),
   effect,
 )
 
 -- bytes on one that doesn't wait do nothing
-comes_idle : (s : State) (id : ℕ) (bytes : List ℕ) (did : Change) → did ≡ no_change → IsEffect s (comes id bytes) undecided s (effect_on id did)
+comes_idle : (s : State) (id : ℕ) (bytes : List ℕ) (did : dones.Done) → did ≡ unasked no_change → IsEffect s (comes id bytes) undecided s (effect_on id did)
 comes_idle s id bytes did none =
-    subst (λ (x : Change). IsEffect s (comes id bytes) undecided s (effect_on id x)) (sym none)
-    (no_effect s s (comes id bytes) undecided (λ q.
+    subst (λ (x : dones.Done). IsEffect s (comes id bytes) undecided s (effect_on id x)) (sym none)
+    (no_effect s s (comes id bytes) (λ q.
     ap (change_between (fin.get s.connections q) (fin.get s.connections q) 0) (same_either (eq_by_cmp nat_cmp id q) None) ∙ same_between (fin.get s.connections q)))
 
-comes_done : (s : State) (id : ℕ) (bytes : List ℕ) (shared shared' : Shared) (old new : TheConnections) (c c' : Connection) (did : Change) (st : Phase) → PartsRepresent shared old s → fin.get s.connections id ≡ Some c
+comes_done : (s : State) (id : ℕ) (bytes : List ℕ) (shared shared' : Shared) (old new : TheConnections) (c c' : Connection) (did : dones.Done) (st : Phase) → PartsRepresent shared old s → fin.get s.connections id ≡ Some c
     → c.phase ≡ st → Receives s.types s.machine s.last_tick c st bytes c' did shared' → BecomesAt s.types (is_open c'.phase) c' id old new → Done s (comes id bytes) (effect_on id did) shared' new
-comes_done s id bytes shared shared' old new c c' did (waiting prefix) held got represents (decision, asks, is, did_is, serves) becomes =
+comes_done s id bytes shared shared' old new c c' did (waiting prefix) held got represents (decision, asks, is, (did_is, asked), serves) becomes =
     let m = machine_after s.types s.machine decision in
     let status = decided_status s.types s.machine decision in (
       with_connection (with_machine s m) id c',
       does_on s (with_connection (with_machine s m) id c') id bytes c (waiting prefix) (effect_on id did) decision got represents asks (ap (with_connection (with_machine s m) id) is)
           (one_effect s m (comes id bytes) decision id (Some c) c' 0 status did got refl (its_id id status None) (λ q isnt. (refl, other_id id status None q isnt))
-          (did_is ∙ ap (λ (x : Connection). change_between (Some c) (Some x) 0 status) (sym is))),
+          (did_is ∙ ap (λ (x : Connection). change_between (Some c) (Some x) 0 status) (sym is))
+          (asked ∙ sym (ap (answered_bytes decision) (waiting_bytes s id bytes c (waiting prefix) got represents)))
+          (answer_speaks s.types s.machine s.last_tick c (prefix ++ bytes) decision did (ap has_ended represents) did_is asked)),
       moves s m id (is_open c'.phase) shared shared' old new c c' held serves got becomes (ap (λ (x : Phase). is_open x && is_open c'.phase) represents),
       refl,
     )
@@ -369,17 +375,17 @@ comes_done s id bytes shared shared' old new c c' did (gone had_ended) held got 
 
 -- ---- a peer that goes, and a pump
 
-goes_done : (s : State) (id : ℕ) (shared shared' : Shared) (old new : TheConnections) (c c' : Connection) (did : Change) → PartsRepresent shared old s → fin.get s.connections id ≡ Some c
-    → c' ≡ with_phase c (gone (has_ended c.phase)) → did ≡ no_change → SharedRepresents shared' s.types s.machine → BecomesAt s.types (is_open c'.phase) c' id old new → Done s (goes id) (effect_on id did) shared' new
-goes_done s id shared shared' old new c c' did held got is did_is serves becomes = (
+goes_done : (s : State) (id : ℕ) (shared shared' : Shared) (old new : TheConnections) (c c' : Connection) → PartsRepresent shared old s → fin.get s.connections id ≡ Some c
+    → c' ≡ with_phase c (gone (has_ended c.phase)) → SharedRepresents shared' s.types s.machine → BecomesAt s.types (is_open c'.phase) c' id old new → Done s (goes id) (effect_on id (unasked no_change)) shared' new
+goes_done s id shared shared' old new c c' held got is serves becomes = (
   with_connection s id c',
   (
     undecided,
     refl,
     ap (with_connection s id) is
         ∙ sym (ap (λ (o : Option Connection). unless_refused (cond (is_some o) None (Some unknown_id)) s (by_connection s o (λ x. with_connection s id (with_phase x (gone (has_ended x.phase)))))) got),
-    one_effect s s.machine (goes id) undecided id (Some c) c' 0 None did got refl refl (λ q isnt. (refl, refl))
-        (did_is ∙ sym (between_same c c' (ap (λ (x : Connection). x.written) is) (ap (λ (x : Connection). has_ended x.phase) is))),
+    one_effect s s.machine (goes id) undecided id (Some c) c' 0 None (unasked no_change) got refl refl (λ q isnt. (refl, refl))
+        (sym (between_same c c' (ap (λ (x : Connection). x.written) is) (ap (λ (x : Connection). has_ended x.phase) is))) refl tt,
   ),
   moves s s.machine id (is_open c'.phase) shared shared' old new c c' held serves got becomes
       (still_open (is_open c.phase) (is_open c'.phase) (λ now. absurd (false_true (sym (ap (λ (x : Connection). is_open x.phase) is) ∙ now)))),
@@ -395,7 +401,7 @@ turn_opens turn c (gone had_ended) represents now = now
 
 pumps_done : (s : State) (id max : ℕ) (shared shared' : Shared) (old new : TheConnections) (c c' : Connection) (did : Change) → PartsRepresent shared old s → fin.get s.connections id ≡ Some c → (max == 0) ≡ false
     → c' ≡ with_turn (pumped s.machine max) c → did ≡ change_between (Some c) (Some (with_turn (pumped s.machine max) c)) (lines_by (pumped s.machine max) c.phase) None
-    → SharedRepresents shared' s.types s.machine → BecomesAt s.types (is_open c'.phase) c' id old new → Done s (pumps id max) (effect_on id did) shared' new
+    → SharedRepresents shared' s.types s.machine → BecomesAt s.types (is_open c'.phase) c' id old new → Done s (pumps id max) (effect_on id (unasked did)) shared' new
 pumps_done s id max shared shared' old new c c' did held got some is did_is serves becomes =
     let turn = pumped s.machine max in
     let lines = λ (o : Option Connection). unwrap_or (option_map (λ (x : Connection). lines_by turn x.phase) o) 0 in (
@@ -405,8 +411,8 @@ pumps_done s id max shared shared' old new c c' did held got some is did_is serv
         refl,
         ap (with_connection s id) is
             ∙ sym (ap₂ (λ (o : Option Connection) (b : Bool). unless_refused (cond (is_some o) (cond b (Some no_lines) None) (Some unknown_id)) s (by_connection s o (λ x. with_connection s id (with_turn turn x)))) got some),
-        one_effect s s.machine (pumps id max) undecided id (Some c) c' (lines_by turn c.phase) None did got (its_id id (lines (fin.get s.connections id)) 0 ∙ ap lines got) refl
-            (λ q isnt. (other_id id (lines (fin.get s.connections q)) 0 q isnt, refl)) (did_is ∙ ap (λ (x : Connection). change_between (Some c) (Some x) (lines_by turn c.phase) None) (sym is)),
+        one_effect s s.machine (pumps id max) undecided id (Some c) c' (lines_by turn c.phase) None (unasked did) got (its_id id (lines (fin.get s.connections id)) 0 ∙ ap lines got) refl
+            (λ q isnt. (other_id id (lines (fin.get s.connections q)) 0 q isnt, refl)) (did_is ∙ ap (λ (x : Connection). change_between (Some c) (Some x) (lines_by turn c.phase) None) (sym is)) refl tt,
       ),
       moves s s.machine id (is_open c'.phase) shared shared' old new c c' held serves got becomes
           (still_open (is_open c.phase) (is_open c'.phase) (λ now. turn_opens turn c c.phase refl (sym (ap (λ (x : Connection). is_open x.phase) is) ∙ now))),
@@ -436,12 +442,14 @@ gone_isnt none = cc
 abbrev pub IsNone : changes.ConnectionInput → Type 0
 IsNone what = what ≡ change.Lines 0
 
-changes_done : (s : State) (what : changes.ConnectionInput) (id : ℕ) (shared shared' : Shared) (old new : TheConnections) (c c' : Connection) (did : Change) → (IsNone what → ⊥) → PartsRepresent shared old s → fin.get s.connections id ≡ Some c
+changes_done : (s : State) (what : changes.ConnectionInput) (id : ℕ) (shared shared' : Shared) (old new : TheConnections) (c c' : Connection) (did : dones.Done) → (IsNone what → ⊥) → PartsRepresent shared old s → fin.get s.connections id ≡ Some c
     → Makes s.types s.machine s.last_tick what c c' did shared' → BecomesAt s.types (is_open c'.phase) c' id old new → Done s (event_on id what) (effect_on id did) shared' new
 changes_done s (change.Bytes bytes) id shared shared' old new c c' did some held got makes becomes = comes_done s id bytes.now shared shared' old new c c' did c.phase held got refl makes becomes
 changes_done s (change.Lines max) id shared shared' old new c c' did some held got (is, did_is, serves) becomes =
-    pumps_done s id max shared shared' old new c c' did held got (some_lines max (max == 0) refl some) is did_is serves becomes
-changes_done s change.Gone id shared shared' old new c c' did some held got (is, did_is, serves) becomes = goes_done s id shared shared' old new c c' did held got is did_is serves becomes
+    subst (λ (x : dones.Done). Done s (pumps id max) (effect_on id x) shared' new) (sym did_is)
+    (pumps_done s id max shared shared' old new c c' _ held got (some_lines max (max == 0) refl some) is refl serves becomes)
+changes_done s change.Gone id shared shared' old new c c' did some held got (is, did_is, serves) becomes =
+    subst (λ (x : dones.Done). Done s (goes id) (effect_on id x) shared' new) (sym did_is) (goes_done s id shared shared' old new c c' held got is serves becomes)
 
 -- by whether there is a connection of the id
 by_known : (s : State) (what : changes.ConnectionInput) (id : ℕ) (o : Option Connection) → (IsNone what → ⊥) → fin.get s.connections id ≡ o → refusal s (event_on id what) ≡ cond (is_some o) None (Some unknown_id)
@@ -533,24 +541,8 @@ Answer = Result Effect HubFault
 
 -- a fault that is no refusal is one of memory or of the store
 not_refused : (f : HubFault) → refusal_in (outcome_of {A = Effect} (Err f)) ≡ None → outcome_of {A = Effect} (Err f) ≡ outcome.out_of_memory
-not_refused f none = go (outcome_of {A = Effect} (Err f)) refl none
-  where
-    fails : (g : HubFault) → outcome_of {A = Effect} (Err g) ≡ outcome.done → ⊥
-    fails fault.IdNotAbove is = cc
-    fails fault.UnknownId is = cc
-    fails fault.NoLines is = cc
-    fails fault.TickBack is = cc
-    fails fault.CompactionRefused is = cc
-    fails (fault.NotTypes why) is = cc
-    fails fault.NotLawful is = cc
-    fails fault.TooFewRevisions is = cc
-    fails fault.Memory is = cc
-    fails fault.Store is = cc
-
-    go : (o : Outcome) → outcome_of {A = Effect} (Err f) ≡ o → refusal_in o ≡ None → outcome_of {A = Effect} (Err f) ≡ outcome.out_of_memory
-    go outcome.done is free = absurd (fails f is)
-    go (outcome.refused why) is free = absurd (none_refused free)
-    go outcome.out_of_memory is free = is
+not_refused (fault.Refused why) none = absurd (none_refused none)
+not_refused (fault.Failed what) none = refl
 
 not_done : (why : Refusal) → outcome.done ≡ outcome.refused why → ⊥
 not_done why is = cc
@@ -665,7 +657,7 @@ compacts_well s c hub shared is free represents =
         undecided,
         refl,
         sym (ap (λ (o : Option Refusal). unless_refused o s t) free),
-        no_effect s t (compacts c) undecided (λ q. same_between (fin.get s.connections q)),
+        no_effect s t (compacts c) (λ q. same_between (fin.get s.connections q)),
       ),
       (over_shared s (compacted_to c s.machine) hub.shared shared hub.connections is.0 represents, is.1),
     )
@@ -678,18 +670,8 @@ same_held s hub shared is represents = (over_shared s s.machine hub.shared share
 
 -- ---- what failed below
 
-pub no_refusal : (A : Type 0) (f : Fault) → refusal_in (outcome_of {A = A} (Err (hub_fault_of f))) ≡ None
-no_refusal A failed.Memory = refl
-no_refusal A failed.Store = refl
-no_refusal A failed.Unreadable = refl
-
 pub fails_out_of_memory : (A : Type 0) (f : Fault) (h : HubFault) → h ≡ hub_fault_of f → outcome_of {A = A} (Err h) ≡ outcome.out_of_memory
-fails_out_of_memory A f h is = ap (λ (x : HubFault). outcome_of {A = A} (Err x)) is ∙ go f
-  where
-    go : (g : Fault) → outcome_of {A = A} (Err (hub_fault_of g)) ≡ outcome.out_of_memory
-    go failed.Memory = refl
-    go failed.Store = refl
-    go failed.Unreadable = refl
+fails_out_of_memory A f h is = ap (λ (x : HubFault). outcome_of {A = A} (Err x)) is
 
 pub failed_handled : (hub new : Hub) (e : Event) (o : Outcome) → o ≡ outcome.out_of_memory → StepsOrRefuses hub e outcome.out_of_memory new → StepsOrRefuses hub e o new
 failed_handled hub new e o is handles = subst (λ (p : Outcome). StepsOrRefuses hub e p new) (sym is) handles

@@ -8,7 +8,6 @@ use Rattle.verbs.specs.Retyping.{RetypeRefusal, retyped, retyping}
 use Rattle.httpedge.specs.SharedViews.{SharedRepresents}
 use Rattle.verbs.specs.Views.{IsFileFault, retype_refusal, reported_of_file}
 use Rattle.httpedge.specs.declared.shared.Shared.{Shared}
-use Rattle.verbs.specs.declared.fault.Fault.TheVariants as failed
 use Rattle.verbs.specs.declared.fault.RetypeFault.{RetypeFault}
 use Rattle.verbs.specs.declared.fault.RetypeFault.TheVariants as retype_fault
 use Rattle.requests.specs.Decision.{undecided}
@@ -35,7 +34,7 @@ retypes_well s file hub shared is (others, got, represents) = (
     undecided,
     refl,
     sym (ap (λ (r : Result (List ServedShape) RetypeRefusal). unless_refused (unless_retyped r) s (with_types s r)) got),
-    no_effect s (with_types s (Ok others)) (retypes file) undecided (λ q. same_between (fin.get s.connections q)),
+    no_effect s (with_types s (Ok others)) (retypes file) (λ q. same_between (fin.get s.connections q)),
   ),
   (
     others_represent s others (retyped s.types others s.machine) hub.shared shared hub.connections (types_last s.types others (is_lawful s.types others s.machine file got)) is.0 represents,
@@ -57,9 +56,7 @@ retypes_not A hub new file e f reported same denied = subst (λ (g : HubFault). 
     go (retype_fault.NotTypes why) here = (same, λ s is. ap unless_retyped (here s is))
     go retype_fault.NotLawful here = (same, λ s is. ap unless_retyped (here s is))
     go retype_fault.TooFewRevisions here = (same, λ s is. ap unless_retyped (here s is))
-    go (retype_fault.Failed failed.Memory) here = runs_out_of_memory_still hub new file same
-    go (retype_fault.Failed failed.Store) here = runs_out_of_memory_still hub new file same
-    go (retype_fault.Failed failed.Unreadable) here = runs_out_of_memory_still hub new file same
+    go (retype_fault.Failed f) here = runs_out_of_memory_still hub new file same
 
 -- which fault of the file is told
 pub file_reported : (file : Data) (e : RetypeFault) (f : HubFault) → f ≡ retyping_fault_of e → IfSome (reported_of_file e) (IsFileFault file) → IfSome (reported_fault f) (IsFileFault file)
@@ -69,6 +66,4 @@ file_reported file e f reported is = subst (λ (g : HubFault). IfSome (reported_
     go (retype_fault.NotTypes why) here = here
     go retype_fault.NotLawful here = tt
     go retype_fault.TooFewRevisions here = tt
-    go (retype_fault.Failed failed.Memory) here = tt
-    go (retype_fault.Failed failed.Store) here = tt
-    go (retype_fault.Failed failed.Unreadable) here = tt
+    go (retype_fault.Failed f) here = tt

@@ -70,7 +70,7 @@ closed_due ms (gone had_ended) is = refl
 -- whether one is due, as the code holds it
 pub same_due : (types : List ServedShape) (ms : ℕ) (d : conns.Connection) (c : Connection) → ConnectionRepresents types d c → writes_at ms (phase_in d) ≡ writes_at ms c.phase
 same_due types ms (conn.Head prefix) c is = sym (ap (λ (x : Connection). writes_at ms x.phase) is)
-same_due types ms (conn.Body p) c (prefix, is, awaits) = sym (ap (λ (x : Connection). writes_at ms x.phase) is)
+same_due types ms (conn.Body prefix p) c (is, awaits) = sym (ap (λ (x : Connection). writes_at ms x.phase) is)
 same_due types ms (conn.Watch w out) c (is, rest, low) = sym (ap (writes_at ms) is)
 same_due types ms (conn.Ended out) c (is, rest) = sym (ap (writes_at ms) is)
 same_due types ms (conn.Closed had_ended) c (closed, had, none) = sym (closed_due ms c.phase closed)
@@ -503,6 +503,7 @@ ticks_well s ms last_tick shared new told same forward (which, held, (none, are_
           says = λ q.
               are_told.says q
               ∙ ap (λ (o : Option Connection). if_something (change_between (fin.get s.connections q) o (lines_if s.types ms (fin.get s.connections q)) None)) (sym (got_each g s.connections q));
+          answers = refl;
         },
       ),
       subst (λ (cs : Connections). IsInState shared new ms (with_tick s ms cs)) all (held, refl),

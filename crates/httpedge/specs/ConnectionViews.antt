@@ -15,8 +15,9 @@ use Rattle.httpedge.specs.declared.out.Out as outs
 use Rattle.httpedge.specs.declared.watching.Watch as watches
 use Rattle.requests.specs.Asks.{CallDecision, Asks}
 use Rattle.httpedge.specs.Connections.{Connection, Connections, Phase, waiting, watching, ended, gone, has_ended, is_new, is_open, is_waiting, is_watching, open_on, new_connection, out_of, with_phase}
-use Rattle.httpedge.specs.Effects.{change_between, decided_status, lines_change, no_change}
+use Rattle.httpedge.specs.Effects.{answered_bytes, asked_in, change_between, decided_status, lines_change, no_change, unasked}
 use Rattle.httpedge.specs.declared.effect.Change.{Change}
+use Rattle.httpedge.specs.declared.effect.Done.{Done}
 use Rattle.httpedge.specs.IdViews.{is_in}
 use Rattle.httpedge.specs.SharedViews.{SharedRepresents}
 use Rattle.httpedge.specs.declared.shared.Shared.{Shared}
@@ -36,10 +37,10 @@ left o = drop o.taken o.bytes.items
 abbrev pub watch_of : watches.Watch → Watch
 watch_of w = record { cursor = w.cursor; opened_at = w.opened_at; timeout = w.timeout }
 
--- how one stands that the code holds; of one whose body hasn't come whole its bytes aren't known here
+-- how one stands that the code holds
 abbrev pub phase_in : conns.Connection → Phase
 phase_in (conn.Head prefix) = waiting (buffered prefix)
-phase_in (conn.Body p) = waiting []
+phase_in (conn.Body prefix p) = waiting (buffered prefix)
 phase_in (conn.Watch w out) = watching (watch_of w)
 phase_in (conn.Ended out) = ended
 phase_in (conn.Closed had_ended) = gone had_ended
@@ -74,7 +75,7 @@ waiting_for prefix = with_phase new_connection (waiting prefix)
 -- the code holds this connection, by these types
 abbrev pub ConnectionRepresents : List ServedShape → conns.Connection → Connection → Type 0
 ConnectionRepresents types (conn.Head prefix) c = c ≡ waiting_for (buffered prefix)
-ConnectionRepresents types (conn.Body p) c = (prefix : List ℕ) × (c ≡ waiting_for prefix) × Awaits types prefix p
+ConnectionRepresents types (conn.Body prefix p) c = (c ≡ waiting_for (buffered prefix)) × Awaits types (buffered prefix) p
 ConnectionRepresents types (conn.Watch w out) c = (c.phase ≡ watching (watch_of w)) × (drop c.taken c.written ≡ left out) × (c.taken ≤ length c.written)
 ConnectionRepresents types (conn.Ended out) c = (c.phase ≡ ended) × (drop c.taken c.written ≡ left out)
 -- over: nothing more is written on it, nothing is out, and it had ended or not
@@ -86,20 +87,25 @@ ConnectionRepresents types (conn.Closed had_ended) c = (is_open c.phase ≡ fals
 abbrev pub received_change : List ServedShape → History → ℕ → Connection → List ℕ → CallDecision → Change
 received_change types m last_tick c bytes decision = change_between (Some c) (Some (connection_after types m last_tick c bytes decision)) 0 (decided_status types m decision)
 
--- by all these bytes a connection that waited becomes this one, after this tick, that is this change, and the API then stands for the machine that
+-- what was done is what these bytes do to such a connection, by what they ask: the change, and that the request of these bytes is answered, if one is
+abbrev pub Receiving : List ServedShape → History → ℕ → Connection → List ℕ → CallDecision → Done → Type 0
+Receiving types m last_tick c bytes decision did =
+    (did.change ≡ received_change types m last_tick c bytes decision) × (asked_in did ≡ answered_bytes decision (Some bytes))
+
+-- by all these bytes a connection that waited becomes this one, after this tick, this was done, and the API then stands for the machine that
 -- they lead to
-abbrev pub Becomes : List ServedShape → History → ℕ → List ℕ → conns.Connection → Change → Api → Type 0
-Becomes types m last_tick bytes c change api =
+abbrev pub Becomes : List ServedShape → History → ℕ → List ℕ → conns.Connection → Done → Api → Type 0
+Becomes types m last_tick bytes c did api =
     (decision : CallDecision) × Asks types bytes decision × ConnectionRepresents types c (connection_after types m last_tick new_connection bytes decision)
-    × (change ≡ received_change types m last_tick new_connection bytes decision) × ApiRepresents api types (machine_after types m decision)
+    × Receiving types m last_tick new_connection bytes decision did × ApiRepresents api types (machine_after types m decision)
 
 -- by how it stood
-abbrev pub ReceivesRepresentedBy : List ServedShape → History → ℕ → Connection → Phase → List ℕ → conns.Connection → Change → Api → Type 0
-ReceivesRepresentedBy types m last_tick c (waiting prefix) bytes d change api = (c ≡ waiting_for prefix) × Becomes types m last_tick (prefix ++ bytes) d change api
-ReceivesRepresentedBy types m last_tick c _ bytes d change api = ConnectionRepresents types d c × (change ≡ no_change) × ApiRepresents api types m
+abbrev pub ReceivesRepresentedBy : List ServedShape → History → ℕ → Connection → Phase → List ℕ → conns.Connection → Done → Api → Type 0
+ReceivesRepresentedBy types m last_tick c (waiting prefix) bytes d did api = (c ≡ waiting_for prefix) × Becomes types m last_tick (prefix ++ bytes) d did api
+ReceivesRepresentedBy types m last_tick c _ bytes d did api = ConnectionRepresents types d c × (did ≡ unasked no_change) × ApiRepresents api types m
 
-abbrev pub ReceivesRepresented : List ServedShape → History → ℕ → Connection → List ℕ → conns.Connection → Change → Api → Type 0
-ReceivesRepresented types m last_tick c bytes d change api = ReceivesRepresentedBy types m last_tick c c.phase bytes d change api
+abbrev pub ReceivesRepresented : List ServedShape → History → ℕ → Connection → List ℕ → conns.Connection → Done → Api → Type 0
+ReceivesRepresented types m last_tick c bytes d did api = ReceivesRepresentedBy types m last_tick c c.phase bytes d did api
 
 -- ---- a watch's turn
 

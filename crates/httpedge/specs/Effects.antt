@@ -1,5 +1,5 @@
--- What an event did, from one state to the next: what it wrote on each connection, and whether it ended.
-use Rattle.std.specs.Prelude.{◌≡◌, ℕ, Bool, true, false, not, ◌&&◌, ◌||◌, nat_le, nat_lt, if◌then◌else◌, List, [], ◌∷◌, drop, length, map, Option, Some, None, option_map, unwrap_or}
+-- What an event did, from one state to the next: what it wrote on each connection, whether it ended, and which request was answered.
+use Rattle.std.specs.Prelude.{◌≡◌, ℕ, Bool, false, not, ◌&&◌, ◌||◌, nat_le, nat_lt, if◌then◌else◌, List, [], ◌∷◌, drop, length, map, Option, Some, None, option_map, unwrap_or}
 use Rattle.std.specs.BTreeMap.{is_at}
 use Rattle.std.specs.FinMap as fin
 use Rattle.std.specs.List.Sorted.{IsStrictlySortedBy}
@@ -12,12 +12,15 @@ use Rattle.verbs.specs.Step.{planned}
 use Rattle.requests.specs.Asks.{CallDecision}
 use Rattle.requests.specs.Decision.{undecided, refused, accepted}
 use Rattle.requests.specs.Refusals.{as_denied, too_many_connections}
+use Rattle.requests.specs.declared.request.Request.{Request}
+use Rattle.requests.specs.ReadBufferViews.{request_bytes}
 use Rattle.httpedge.specs.declared.effect.Change.{Change}
+use Rattle.httpedge.specs.declared.effect.Done.{Done}
 use Rattle.httpedge.specs.declared.effect.Effect.{Effect}
 use Rattle.httpedge.specs.declared.effect.Effect.TheVariants as effect
-use Rattle.httpedge.specs.Connections.{Connection, Connections, Phase, waiting, watching, ended, gone, max_open, open_count, has_ended, ended_on, written_on}
+use Rattle.httpedge.specs.Connections.{Connection, Connections, Phase, watching, max_open, open_count, has_ended, ended_on, written_on}
 use Rattle.httpedge.specs.Runs.{AsksIf, bytes_at}
-use Rattle.httpedge.specs.Steps.{Event, State, opens, comes, goes, pumps, ticks, compacts, retypes, stepped}
+use Rattle.httpedge.specs.Steps.{Event, State, opens, comes, pumps, ticks, stepped}
 use Rattle.httpedge.specs.Watches.{Turn, Watch, pumped, ticked}
 
 -- ---- from one state to another
@@ -61,6 +64,12 @@ status_at s (opens id) decision q = if eq_by_cmp nat_cmp id q then opening_statu
 status_at s (comes id bytes) decision q = if eq_by_cmp nat_cmp id q then decided_status s.types s.machine decision else None
 status_at s _ decision q = None
 
+-- the bytes of the request that is answered: all those of the connection, once they decide what it asks
+abbrev pub answered_bytes : CallDecision → Option (List ℕ) → Option (List ℕ)
+answered_bytes undecided bytes = None
+answered_bytes (refused d) bytes = bytes
+answered_bytes (accepted call) bytes = bytes
+
 -- ---- what it did
 
 -- to a connection
@@ -85,14 +94,15 @@ tells entry = says_something entry.1
 abbrev pub if_something : Change → Option Change
 if_something change = if says_something change then Some change else None
 
--- an effect of one connection
-abbrev pub effect_on : ℕ → Change → Effect
-effect_on id change = if says_something change then effect.Connection (id, change) else effect.Nothing
-
 abbrev pub changes_in : Effect → List (ℕ × Change)
 changes_in effect.Nothing = []
 changes_in (effect.Connection entry) = entry ∷ []
+changes_in (effect.Answer entry request) = entry ∷ []
 changes_in (effect.Connections entries) = entries.items
+
+abbrev pub request_in : Effect → Option (List ℕ)
+request_in (effect.Answer entry request) = Some (request_bytes request)
+request_in _ = None
 
 abbrev pub ids_in : List (ℕ × Change) → List ℕ
 ids_in entries = map (λ entry. entry.0) entries
@@ -101,10 +111,11 @@ abbrev pub change_in : List (ℕ × Change) → ℕ → Option Change
 change_in entries id = lookup (is_at (nat_cmp id)) entries
 
 -- the effect is what the event did from one state to the other: it names each connection on which some bytes were written or that ended,
--- and no other, by ids that rise
+-- and no other, by ids that rise; and it has the request that was answered
 pub record IsEffect (s : State) (e : Event) (decision : CallDecision) (t : State) (x : Effect) : Type 0 where
   pub rises : IsStrictlySortedBy nat_cmp (ids_in (changes_in x))
   pub says : (id : ℕ) → change_in (changes_in x) id ≡ if_something (change_at s e decision t id)
+  pub answers : request_in x ≡ answered_bytes decision (bytes_at s e)
 
 -- the event leads to this state, and the effect is what it did
 abbrev pub Does : State → Event → State → Effect → Type 0
@@ -134,3 +145,18 @@ lines_change bytes lines has_ended = record { bytes = length bytes; lines = line
 
 abbrev pub answer_change : List ℕ → ℕ → Bool → Change
 answer_change bytes status has_ended = record { bytes = length bytes; lines = 0; status = Some status; has_ended = has_ended }
+
+-- what was done to one connection where no request was answered
+abbrev pub unasked : Change → Done
+unasked change = record { change = change; request = None }
+
+abbrev pub asked_in : Done → Option (List ℕ)
+asked_in done = option_map request_bytes done.request
+
+-- an effect of one connection
+abbrev pub effect_by : ℕ × Change → Option Request → Effect
+effect_by entry (Some request) = effect.Answer entry request
+effect_by entry None = if tells entry then effect.Connection entry else effect.Nothing
+
+abbrev pub effect_on : ℕ → Done → Effect
+effect_on id done = effect_by (id, done.change) done.request

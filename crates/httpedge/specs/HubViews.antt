@@ -11,6 +11,8 @@ use Rattle.httpedge.specs.declared.event.Event as events
 use Rattle.httpedge.specs.declared.event.Event.TheVariants as event
 use Rattle.httpedge.specs.declared.fault.HubFault as faults
 use Rattle.httpedge.specs.declared.fault.HubFault.TheVariants as fault
+use Rattle.httpedge.specs.declared.fault.HubRefusal as refusals
+use Rattle.httpedge.specs.declared.fault.HubRefusal.TheVariants as hub_refusal
 use Rattle.httpedge.specs.declared.hub.Hub as hubs
 use Rattle.httpedge.specs.ConnectionViews.{PartsRepresent}
 use Rattle.httpedge.specs.Effects.{Does}
@@ -46,22 +48,24 @@ pub data Outcome : Type 0 where
   refused : Refusal → Outcome
   out_of_memory : Outcome
 
+abbrev pub refusal_of : refusals.HubRefusal → Refusal
+refusal_of hub_refusal.IdNotAbove = id_not_above
+refusal_of hub_refusal.UnknownId = unknown_id
+refusal_of hub_refusal.NoLines = no_lines
+refusal_of hub_refusal.TickBack = tick_back
+refusal_of hub_refusal.CompactionRefused = compaction_refused
+refusal_of (hub_refusal.NotTypes file) = types_refused not_types
+refusal_of hub_refusal.NotLawful = types_refused not_lawful
+refusal_of hub_refusal.TooFewRevisions = types_refused too_few_revisions
+
 abbrev pub outcome_of : {A : Type 0} → Result A faults.HubFault → Outcome
 outcome_of (Ok a) = done
-outcome_of (Err fault.IdNotAbove) = refused id_not_above
-outcome_of (Err fault.UnknownId) = refused unknown_id
-outcome_of (Err fault.NoLines) = refused no_lines
-outcome_of (Err fault.TickBack) = refused tick_back
-outcome_of (Err fault.CompactionRefused) = refused compaction_refused
-outcome_of (Err (fault.NotTypes why)) = refused (types_refused not_types)
-outcome_of (Err fault.NotLawful) = refused (types_refused not_lawful)
-outcome_of (Err fault.TooFewRevisions) = refused (types_refused too_few_revisions)
-outcome_of (Err fault.Memory) = out_of_memory
-outcome_of (Err fault.Store) = out_of_memory
+outcome_of (Err (fault.Refused which)) = refused (refusal_of which)
+outcome_of (Err (fault.Failed what)) = out_of_memory
 
 -- which fault of a types file is reported
 abbrev pub reported_fault : faults.HubFault → Option TypesFault
-reported_fault (fault.NotTypes why) = Some why
+reported_fault (fault.Refused (hub_refusal.NotTypes which)) = Some which
 reported_fault _ = None
 
 -- where a file is reported to be no types file, the fault is the file's own

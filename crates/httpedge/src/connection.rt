@@ -1,5 +1,5 @@
-//! One connection: its state, and how an event changes it. Its watch stands in `watching` and `turns`, all connections in
-//! `connections`.
+//! One connection: its state, and how an event changes it. Its watch stands in `watching` and `turns`, all connections
+//! in `connections`.
 
 ghost use Rattle.std.specs.Prelude.{◌≡◌, ◌++◌, ℕ, List, None, Some, true, Ok, IfOk, OnErr, is_none, option_map};
 ghost use Rattle.api_types.specs.TypesFile.{ServedShape};
@@ -12,7 +12,7 @@ ghost use Rattle.httpedge.specs.ChangeViews.{MakesRepresented, takes_memory_on};
 ghost use Rattle.httpedge.specs.Connections as model;
 ghost use Rattle.httpedge.specs.Connections.{Connections, ended, gone, open_count, new_connection, with_phase, with_taken, with_written};
 ghost use Rattle.httpedge.specs.ConnectionViews.{Becomes, ConnectionRepresents, ReceivesRepresented, has_ended_in, is_open_in, is_waiting_in, out_in, had_ended_if_over_in, phase_in};
-ghost use Rattle.httpedge.specs.Effects.{answer_change, change_between, no_change, opening_status};
+ghost use Rattle.httpedge.specs.Effects.{answer_change, change_between, no_change, opening_status, unasked};
 ghost use Rattle.httpedge.specs.HubViews.{event_of};
 ghost use Rattle.httpedge.specs.NextTurns.{turn_in};
 ghost use Rattle.requests.specs.ReadBufferViews.{buffered};
@@ -24,7 +24,7 @@ ghost use Rattle.requests.specs.Replies.{answer_bytes, refusal_reply as refusal_
 ghost use Rattle.answers.specs.Views.{watch_from};
 
 use crate::answering::{CallReply, serve};
-use crate::effect::Change;
+use crate::effect::{Change, Done};
 use crate::event::{ConnectionInput, Event};
 use crate::out::Out;
 use crate::shared::Shared;
@@ -43,8 +43,8 @@ const MAX_OPEN: usize = 1_024;
 pub(crate) enum Connection {
     /// The head of its request hasn't come whole.
     Head(ReadBuffer),
-    /// The body of its request hasn't come whole.
-    Body(Pending),
+    /// The body of its request hasn't come whole: all that came, and what its head said.
+    Body(ReadBuffer, Pending),
     /// It watches.
     Watch(Watch, Out),
     /// It has ended.
@@ -84,7 +84,7 @@ pub(crate) fn is_open(connection: &Connection) -> bool
     ensures { result ≡ is_open_in connection.now }
 {
     match connection {
-        Connection::Head(_) | Connection::Body(_) | Connection::Watch(_, _) => true,
+        Connection::Head(_) | Connection::Body(_, _) | Connection::Watch(_, _) => true,
         Connection::Ended(_) | Connection::Closed(_) => false,
     }
 }
@@ -93,7 +93,7 @@ pub(crate) fn is_waiting(connection: &Connection) -> bool
     ensures { result ≡ is_waiting_in connection.now }
 {
     match connection {
-        Connection::Head(_) | Connection::Body(_) => true,
+        Connection::Head(_) | Connection::Body(_, _) => true,
         Connection::Watch(_, _) | Connection::Ended(_) | Connection::Closed(_) => false,
     }
 }
@@ -102,7 +102,7 @@ pub(crate) fn has_ended(connection: &Connection) -> bool
     ensures { result ≡ has_ended_in connection.now }
 {
     match connection {
-        Connection::Head(_) | Connection::Body(_) | Connection::Watch(_, _) => false,
+        Connection::Head(_) | Connection::Body(_, _) | Connection::Watch(_, _) => false,
         Connection::Ended(_) => true,
         Connection::Closed(had_ended) => *had_ended,
     }
@@ -113,7 +113,7 @@ pub(crate) fn had_ended_if_over(connection: &Connection) -> Option<bool>
     ensures { result ≡ had_ended_if_over_in connection.now }
 {
     match connection {
-        Connection::Head(_) | Connection::Body(_) | Connection::Watch(_, _) => None,
+        Connection::Head(_) | Connection::Body(_, _) | Connection::Watch(_, _) => None,
         Connection::Ended(out) => {
             if out.left().is_empty() {
                 Some(true)
@@ -132,7 +132,7 @@ pub(crate) fn out_of(connection: &Connection) -> &[u8]
     match connection {
         Connection::Watch(_, out) => out.left(),
         Connection::Ended(out) => out.left(),
-        Connection::Head(_) | Connection::Body(_) | Connection::Closed(_) => &[],
+        Connection::Head(_) | Connection::Body(_, _) | Connection::Closed(_) => &[],
     }
 }
 
@@ -147,7 +147,7 @@ pub(crate) fn next_turn(
 {
     match connection {
         Connection::Watch(watch, _) => watch.next_turn(id, current, last_tick),
-        Connection::Head(_) | Connection::Body(_) => None,
+        Connection::Head(_) | Connection::Body(_, _) => None,
         Connection::Ended(_) | Connection::Closed(_) => None,
     }
 }
@@ -159,7 +159,7 @@ pub(crate) fn take_from(alloc: Global, connection: &mut Connection, n: usize)
     match connection {
         Connection::Watch(_, out) => out.take(alloc, n),
         Connection::Ended(out) => out.take(alloc, n),
-        Connection::Head(_) | Connection::Body(_) | Connection::Closed(_) => {}
+        Connection::Head(_) | Connection::Body(_, _) | Connection::Closed(_) => {}
     }
 }
 
@@ -202,55 +202,61 @@ fn answered(served: CallReply, last_tick: u64) -> (Connection, Change)
 fn decided(
     alloc: Global,
     api: &mut Api,
+    prefix: ReadBuffer,
     decision: Progress,
     last_tick: u64,
-) -> Result<(Connection, Change), Fault>
-    ensures ok { (types : List ServedShape) (m : History) (bytes : List ℕ) → ApiRepresents api.old types m → Finds types bytes decision → IfOk result (λ p. Becomes types m last_tick bytes p.0 p.1 api.new) }
+) -> Result<(Connection, Done), Fault>
+    ensures ok { (types : List ServedShape) (m : History) → ApiRepresents api.old types m → Finds types (buffered prefix) decision → IfOk result (λ p. Becomes types m last_tick (buffered prefix) p.0 p.1 api.new) }
     ensures err { (types : List ServedShape) (m : History) → ApiRepresents api.old types m → OnErr result (ApiRepresents api.new types m) }
 {
     match decision {
-        Progress::Pending(pending) => Ok((Connection::Body(pending), Change::none())),
+        Progress::Pending(pending) => {
+            let done = Done::unasked(Change::none());
+            Ok((Connection::Body(prefix, pending), done))
+        }
         Progress::Refused(denied) => {
-            let reply = refused(alloc, denied)?;
-            Ok(reply)
+            let (connection, change) = refused(alloc, denied)?;
+            Ok((connection, Done::asked(change, prefix)))
         }
         Progress::Call(call) => {
             let served = serve(alloc, api, &call)?;
-            Ok(answered(served, last_tick))
+            let (connection, change) = answered(served, last_tick);
+            Ok((connection, Done::asked(change, prefix)))
         }
     }
 }
 
+/// What becomes of a connection whose head hadn't come whole, by all its bytes, and what that did.
 fn receive_head(
     alloc: Global,
     api: &mut Api,
-    prefix: ReadBuffer,
-    bytes: &[u8],
+    mut prefix: ReadBuffer,
     last_tick: u64,
-) -> Result<(Connection, Change), Fault>
-    ensures ok { (types : List ServedShape) (m : History) → ApiRepresents api.old types m → IfOk result (λ p. Becomes types m last_tick (buffered prefix ++ bytes.now) p.0 p.1 api.new) }
+) -> Result<(Connection, Done), Fault>
+    ensures ok { (types : List ServedShape) (m : History) → ApiRepresents api.old types m → IfOk result (λ p. Becomes types m last_tick (buffered prefix) p.0 p.1 api.new) }
     ensures err { (types : List ServedShape) (m : History) → ApiRepresents api.old types m → OnErr result (ApiRepresents api.new types m) }
 {
-    let mut prefix = prefix.with(bytes)?;
     let end = prefix.find_end();
     match ask(alloc, api.routes(), api.types(), prefix.bytes(), end)? {
-        None => Ok((Connection::Head(prefix), Change::none())),
-        Some(decision) => decided(alloc, api, decision, last_tick),
+        None => Ok((Connection::Head(prefix), Done::unasked(Change::none()))),
+        Some(decision) => decided(alloc, api, prefix, decision, last_tick),
     }
 }
 
+/// What becomes of a connection whose body hadn't come whole, by all its bytes, and what that did.
 fn receive_body(
     alloc: Global,
     api: &mut Api,
+    prefix: ReadBuffer,
     pending: Pending,
-    bytes: &[u8],
     last_tick: u64,
-) -> Result<(Connection, Change), Fault>
-    ensures ok { (types : List ServedShape) (m : History) (prefix : List ℕ) → ApiRepresents api.old types m → Awaits types prefix pending → IfOk result (λ p. Becomes types m last_tick (prefix ++ bytes.now) p.0 p.1 api.new) }
+) -> Result<(Connection, Done), Fault>
+    ensures ok { (types : List ServedShape) (m : History) (before more : List ℕ) → ApiRepresents api.old types m → buffered prefix ≡ before ++ more → Awaits types before pending
+        → IfOk result (λ p. Becomes types m last_tick (buffered prefix) p.0 p.1 api.new) }
     ensures err { (types : List ServedShape) (m : History) → ApiRepresents api.old types m → OnErr result (ApiRepresents api.new types m) }
 {
-    let decision = ask_on(alloc, pending, bytes)?;
-    decided(alloc, api, decision, last_tick)
+    let decision = ask_on(alloc, pending, prefix.bytes())?;
+    decided(alloc, api, prefix, decision, last_tick)
 }
 
 fn receive(
@@ -259,30 +265,42 @@ fn receive(
     connection: Connection,
     bytes: &[u8],
     last_tick: u64,
-) -> Result<(Connection, Change), Fault>
+) -> Result<(Connection, Done), Fault>
     ensures ok { (types : List ServedShape) (m : History) (c : model.Connection) → ApiRepresents api.old types m → ConnectionRepresents types connection c → IfOk result (λ p. ReceivesRepresented types m last_tick c bytes.now p.0 p.1 api.new) }
     ensures err { (types : List ServedShape) (m : History) → ApiRepresents api.old types m → OnErr result (ApiRepresents api.new types m) }
     ensures waited { OnErr result (is_waiting_in connection ≡ true) }
 {
     match connection {
-        Connection::Head(prefix) => receive_head(alloc, api, prefix, bytes, last_tick),
-        Connection::Body(pending) => receive_body(alloc, api, pending, bytes, last_tick),
-        Connection::Watch(watch, out) => Ok((Connection::Watch(watch, out), Change::none())),
-        Connection::Ended(out) => Ok((Connection::Ended(out), Change::none())),
-        Connection::Closed(had_ended) => Ok((Connection::Closed(had_ended), Change::none())),
+        Connection::Head(prefix) => {
+            let prefix = prefix.with(bytes)?;
+            receive_head(alloc, api, prefix, last_tick)
+        }
+        Connection::Body(prefix, pending) => {
+            let prefix = prefix.with(bytes)?;
+            receive_body(alloc, api, prefix, pending, last_tick)
+        }
+        Connection::Watch(watch, out) => Ok((
+            Connection::Watch(watch, out),
+            Done::unasked(Change::none()),
+        )),
+        Connection::Ended(out) => Ok((Connection::Ended(out), Done::unasked(Change::none()))),
+        Connection::Closed(had_ended) => Ok((
+            Connection::Closed(had_ended),
+            Done::unasked(Change::none()),
+        )),
     }
 }
 
-/// Bytes come on a connection; what that did. Out of memory, it is dead. One that waits for no bytes needs no memory. What
-/// they ask may change what watches send, so that no turn is the last one.
+/// Bytes come on a connection; what that did. Out of memory, it is dead. One that waits for no bytes needs no memory.
+/// What they ask may change what watches send, so that no turn is the last one.
 pub(crate) fn receive_on(
     alloc: Global,
     shared: &mut Shared,
     connection: &mut Connection,
     bytes: &[u8],
     last_tick: u64,
-) -> Result<Change, Fault>
-    ensures ok { (types : List ServedShape) (m : History) (c : model.Connection) → SharedRepresents shared.old types m → ConnectionRepresents types connection.old c → IfOk result (λ change. ReceivesRepresented types m last_tick c bytes.now connection.new change shared.new.api) }
+) -> Result<Done, Fault>
+    ensures ok { (types : List ServedShape) (m : History) (c : model.Connection) → SharedRepresents shared.old types m → ConnectionRepresents types connection.old c → IfOk result (λ did. ReceivesRepresented types m last_tick c bytes.now connection.new did shared.new.api) }
     ensures forgotten { shared.new.last ≡ None }
     ensures err { (types : List ServedShape) (m : History) → SharedRepresents shared.old types m → OnErr result (SharedRepresents shared.new types m) }
     ensures waited { OnErr result (is_waiting_in connection.old ≡ true) }
@@ -292,32 +310,35 @@ pub(crate) fn receive_on(
     let killed = Connection::Ended(Out::empty(alloc));
     let was = mem::replace(connection, killed);
     let received = receive(alloc, &mut shared.api, was, bytes, last_tick)?;
-    let (became, change) = received;
+    let (became, done) = received;
     *connection = became;
-    Ok(change)
+    Ok(done)
 }
 
-/// Changes a connection; what that did. Out of memory, one that waits is dead where bytes come on it, and a watch where it is
-/// pumped.
+/// Changes a connection; what that did. Out of memory, one that waits is dead where bytes come on it, and a watch where
+/// it is pumped.
 pub(crate) fn change(
     alloc: Global,
     shared: &mut Shared,
     connection: &mut Connection,
     what: ConnectionInput,
     last_tick: u64,
-) -> Result<Change, Fault>
-    ensures ok { (types : List ServedShape) (m : History) (c : model.Connection) → SharedRepresents shared.old types m → ConnectionRepresents types connection.old c → IfOk result (λ change. MakesRepresented types m last_tick what.entry c connection.new change shared.new) }
+) -> Result<Done, Fault>
+    ensures ok { (types : List ServedShape) (m : History) (c : model.Connection) → SharedRepresents shared.old types m → ConnectionRepresents types connection.old c → IfOk result (λ did. MakesRepresented types m last_tick what.entry c connection.new did shared.new) }
     ensures err { (types : List ServedShape) (m : History) → SharedRepresents shared.old types m → OnErr result (SharedRepresents shared.new types m) }
     ensures could { (types : List ServedShape) (c : model.Connection) → ConnectionRepresents types connection.old c → OnErr result (takes_memory_on what.entry c.phase ≡ true) }
     ensures killed { (types : List ServedShape) (c : model.Connection) → ConnectionRepresents types connection.old c → OnErr result (ConnectionRepresents types connection.new (with_phase c ended)) }
-    ensures gone { what.entry ≡ changes.Gone → result ≡ Ok no_change }
+    ensures gone { what.entry ≡ changes.Gone → result ≡ Ok (unasked no_change) }
 {
     match what {
         ConnectionInput::Bytes(bytes) => receive_on(alloc, shared, connection, bytes, last_tick),
-        ConnectionInput::Lines(max) => pump_on(alloc, shared, connection, max),
+        ConnectionInput::Lines(max) => {
+            let change = pump_on(alloc, shared, connection, max)?;
+            Ok(Done::unasked(change))
+        }
         ConnectionInput::Gone => {
             go_from(connection);
-            Ok(Change::none())
+            Ok(Done::unasked(Change::none()))
         }
     }
 }

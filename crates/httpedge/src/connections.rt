@@ -1,5 +1,5 @@
-//! All connections that were ever opened, by their ids: those that are open, and those that are over, of which ranges of ids
-//! are left. How one of them changes stands in `connection`, how all have their turn at a tick in `ticking`.
+//! All connections that were ever opened, by their ids: those that are open, and those that are over, of which ranges
+//! of ids are left. How one of them changes stands in `connection`, how all have their turn at a tick in `ticking`.
 
 ghost use Rattle.std.specs.Prelude.{◌≡◌, ◌≢◌, [], ℕ, Bool, List, None, Some, Ok, Err, true, false, cond, is_some, unwrap_or, option_and_then, option_map, OnOk, OnErr};
 ghost use Rattle.std.specs.BTreeMap.{get};
@@ -19,7 +19,9 @@ ghost use Rattle.httpedge.specs.TickViews.{TicksIn};
 ghost use Rattle.httpedge.specs.declared.connection.Connection as held;
 ghost use Rattle.httpedge.specs.declared.effect.Effect.TheVariants as effect;
 ghost use Rattle.httpedge.specs.declared.event.ConnectionInput.TheVariants as changes;
+ghost use Rattle.httpedge.specs.declared.fault.HubFailure.TheVariants as failure;
 ghost use Rattle.httpedge.specs.declared.fault.HubFault.TheVariants as fault;
+ghost use Rattle.httpedge.specs.declared.fault.HubRefusal.TheVariants as hub_refusal;
 ghost use Rattle.httpedge.specs.declared.shared.Shared as shares;
 
 use crate::connection::{
@@ -28,7 +30,7 @@ use crate::connection::{
 };
 use crate::effect::{Change, Effect};
 use crate::event::{ConnectionInput, Event};
-use crate::fault::HubFault;
+use crate::fault::{HubFault, HubRefusal};
 use crate::ids::Ids;
 use crate::shared::Shared;
 use crate::ticking::{drop_ended, tick_all};
@@ -129,7 +131,8 @@ impl Connections {
         }
     }
 
-    /// The event that gives a connection its next turn, by the current revision and the last tick; none for an unknown id.
+    /// The event that gives a connection its next turn, by the current revision and the last tick; none for an unknown
+    /// id.
     pub(crate) fn next_turn(&self, id: u64, current: u64, last_tick: u64) -> Option<Event>
         ensures { option_map event_of result ≡ option_and_then (λ d. turn_in id current last_tick (phase_in d)) (found self.now id) }
     {
@@ -181,7 +184,7 @@ impl Connections {
             → Changes types m last_tick what.entry id c self.old self.new shared.new result }
         ensures unknown { found self.old id ≡ None → (outcome_of result ≡ refused unknown_id) × (self.new ≡ self.old) × (shared.new ≡ shared.old) }
         ensures taken { is_some (found self.old id) ≡ true → refusal_in (outcome_of result) ≡ None }
-        ensures gone { what.entry ≡ changes.Gone → result ≢ Err fault.Store }
+        ensures gone { what.entry ≡ changes.Gone → result ≢ Err (fault.Failed failure.Store) }
     {
         match self.held.get_mut(&id) {
             None => self.answer_unheld(id),
@@ -192,7 +195,7 @@ impl Connections {
                 self.close(id, still_open);
                 self.forget(id, had_ended);
                 match changed {
-                    Ok(change) => Ok(Effect::of(id, change)),
+                    Ok(done) => Ok(Effect::of(id, done)),
                     Err(fault) => Err(HubFault::from(fault)),
                 }
             }
@@ -201,13 +204,13 @@ impl Connections {
 
     /// One that isn't held is over, or unknown.
     fn answer_unheld(&self, id: u64) -> Result<Effect, HubFault>
-        ensures outcome { result ≡ cond (is_some (had_ended_by_ids (is_in self.now.ended.ranges id) (is_in self.now.cut.ranges id))) (Ok effect.Nothing) (Err fault.UnknownId) }
-        ensures store { result ≢ Err fault.Store }
+        ensures outcome { result ≡ cond (is_some (had_ended_by_ids (is_in self.now.ended.ranges id) (is_in self.now.cut.ranges id))) (Ok effect.Nothing) (Err (fault.Refused hub_refusal.UnknownId)) }
+        ensures store { result ≢ Err (fault.Failed failure.Store) }
     {
         if self.had_ended_if_over(id).is_some() {
             Ok(Effect::Nothing)
         } else {
-            Err(HubFault::UnknownId)
+            Err(HubFault::Refused(HubRefusal::UnknownId))
         }
     }
 

@@ -1,9 +1,12 @@
-//! What an event did: on which connections it wrote, and which of them ended. What it changes stands in `hub`.
+//! What an event did: on which connections it wrote, which of them ended, and which request it answered. What it
+//! changes stands in `hub`.
 
-ghost use Rattle.std.specs.Prelude.{◌≡◌, ◌++◌, ◌∷◌, ◌<◌, [], vec_capacity, vec_len};
+ghost use Rattle.std.specs.Prelude.{◌≡◌, ◌++◌, ◌∷◌, ◌<◌, [], Some, option_map, vec_capacity, vec_len};
 ghost use Rattle.std.specs.List.{filter};
-ghost use Rattle.httpedge.specs.Effects.{changes_in, effect_on, no_change, says_something, tells};
+ghost use Rattle.httpedge.specs.Effects.{asked_in, changes_in, effect_on, no_change, request_in, says_something, tells, unasked};
+ghost use Rattle.requests.specs.ReadBufferViews.{buffered, request_bytes};
 
+use requests::{ReadBuffer, Request};
 use std::slice;
 
 /// What an event did to a connection.
@@ -19,11 +22,44 @@ pub struct Change {
     pub has_ended: bool,
 }
 
-/// What an event did, by the ids of connections: one on which it wrote nothing, and which didn't end by it, isn't named.
+/// What an event did to a connection, and the request that it answered there.
+#[derive(Debug, Drop)]
+pub(crate) struct Done {
+    pub(crate) change: Change,
+    pub(crate) request: Option<Request>,
+}
+
+impl Done {
+    /// A change by which no request was answered.
+    pub(crate) fn unasked(change: Change) -> Done
+        ensures { result ≡ unasked change }
+    {
+        Done {
+            change,
+            request: None,
+        }
+    }
+
+    /// A change by which the request of these bytes was answered.
+    pub(crate) fn asked(change: Change, prefix: ReadBuffer) -> Done
+        ensures change { result.change ≡ change }
+        ensures request { asked_in result ≡ Some (buffered prefix) }
+    {
+        Done {
+            change,
+            request: Some(Request::new(prefix.into_bytes())),
+        }
+    }
+}
+
+/// What an event did, by the ids of connections: one on which it wrote nothing, and which didn't end by it, isn't
+/// named.
 #[derive(Debug, Drop)]
 pub enum Effect {
     Nothing,
     Connection((u64, Change)),
+    /// The same, where it answered this request.
+    Answer((u64, Change), Request),
     /// By ids that rise.
     Connections(Vec<(u64, Change)>),
 }
@@ -51,13 +87,19 @@ impl Change {
 
 impl Effect {
     /// What an event did to the connection of this id, where it is of no other.
-    pub(crate) fn of(id: u64, change: Change) -> Effect
-        ensures { result ≡ effect_on id change }
+    pub(crate) fn of(id: u64, done: Done) -> Effect
+        ensures { result ≡ effect_on id done }
     {
-        if change.says_something() {
-            Effect::Connection((id, change))
-        } else {
-            Effect::Nothing
+        let Done { change, request } = done;
+        match request {
+            Some(request) => Effect::Answer((id, change), request),
+            None => {
+                if change.says_something() {
+                    Effect::Connection((id, change))
+                } else {
+                    Effect::Nothing
+                }
+            }
         }
     }
 
@@ -68,7 +110,18 @@ impl Effect {
         match self {
             Effect::Nothing => &[],
             Effect::Connection(entry) => slice::from_ref(entry),
+            Effect::Answer(entry, _) => slice::from_ref(entry),
             Effect::Connections(entries) => entries.as_slice(),
+        }
+    }
+
+    /// The request that was answered, by a call or by its refusal. It came on the only connection of the changes.
+    pub fn request(&self) -> Option<&Request>
+        ensures { option_map (λ r. request_bytes r.now) result ≡ request_in self.now }
+    {
+        match self {
+            Effect::Answer(_, request) => Some(request),
+            Effect::Nothing | Effect::Connection(_) | Effect::Connections(_) => None,
         }
     }
 }

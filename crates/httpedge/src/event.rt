@@ -18,8 +18,8 @@ pub enum Event {
     /// What no answer from this revision on can show may be forgotten: a revision from the compacted number to the
     /// current one.
     Compact(u64),
-    /// The types of a types file are served from here on: a JSON value, `{"types":[..]}`. Beside those that are served, some sets,
-    /// map lists and granular maps have become atomic.
+    /// The types of a types file are served from here on: a JSON value, `{"types":[..]}`. Beside those that are served,
+    /// some sets, map lists and granular maps have become atomic.
     Retype(Value),
 }
 

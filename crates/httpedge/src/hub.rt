@@ -17,9 +17,9 @@ ghost use Rattle.httpedge.specs.Steps.{State, compacts, opens, pumps, retypes, s
 
 use crate::connection::opening;
 use crate::connections::Connections;
-use crate::effect::Effect;
+use crate::effect::{Done, Effect};
 use crate::event::{ConnectionInput, Event};
-use crate::fault::HubFault;
+use crate::fault::{HubFailure, HubFault, HubRefusal};
 use crate::shared::Shared;
 use revstore::CompactFault;
 use serde_json::Value;
@@ -77,26 +77,26 @@ impl Hub {
         let opened = opening(self.alloc, self.connections.open_count())?;
         let (connection, change) = opened;
         self.connections.open(id, connection)?;
-        Ok(Effect::of(id, change))
+        Ok(Effect::of(id, Done::unasked(change)))
     }
 
     fn open(&mut self, id: u64) -> Result<Effect, HubFault>
         ensures handles { Handles self.old (opens id) result self.new }
-        ensures store { result ≢ Err HubFault.Store }
+        ensures store { result ≢ Err (HubFault.Failed HubFailure.Store) }
     {
         if !is_above(self.connections.highest(), id) {
-            return Err(HubFault::IdNotAbove);
+            return Err(HubFault::Refused(HubRefusal::IdNotAbove));
         }
         match self.open_above(id) {
             Ok(effect) => Ok(effect),
-            Err(_) => Err(HubFault::Memory),
+            Err(_) => Err(HubFault::Failed(HubFailure::Memory)),
         }
     }
 
     /// Changes the connection of an id.
     fn change(&mut self, id: u64, what: ConnectionInput) -> Result<Effect, HubFault>
         ensures handles { what.entry ≢ changes.Lines 0 → Handles self.old (event_on id what.entry) result self.new }
-        ensures gone { what.entry ≡ changes.Gone → result ≢ Err HubFault.Store }
+        ensures gone { what.entry ≡ changes.Gone → result ≢ Err (HubFault.Failed HubFailure.Store) }
     {
         self.connections
             .change(self.alloc, &mut self.shared, id, what, self.last_tick)
@@ -109,23 +109,23 @@ impl Hub {
             return self.change(id, ConnectionInput::Lines(max as usize));
         }
         if self.connections.is_known(id) {
-            Err(HubFault::NoLines)
+            Err(HubFault::Refused(HubRefusal::NoLines))
         } else {
-            Err(HubFault::UnknownId)
+            Err(HubFault::Refused(HubRefusal::UnknownId))
         }
     }
 
     fn tick(&mut self, ms: u64) -> Result<Effect, HubFault>
         ensures handles { Handles self.old (ticks ms) result self.new }
-        ensures store { result ≢ Err HubFault.Store }
+        ensures store { result ≢ Err (HubFault.Failed HubFailure.Store) }
     {
         if ms < self.last_tick {
-            return Err(HubFault::TickBack);
+            return Err(HubFault::Refused(HubRefusal::TickBack));
         }
         let changes = self.connections.tick(self.alloc, &self.shared.api, ms);
         self.last_tick = ms;
         match changes {
-            None => Err(HubFault::Memory),
+            None => Err(HubFault::Failed(HubFailure::Memory)),
             Some(changes) => Ok(Effect::Connections(changes)),
         }
     }
@@ -135,8 +135,8 @@ impl Hub {
     {
         match self.shared.compact(revision) {
             Ok(()) => Ok(Effect::Nothing),
-            Err(CompactFault::Expired) => Err(HubFault::CompactionRefused),
-            Err(CompactFault::TooLarge) => Err(HubFault::CompactionRefused),
+            Err(CompactFault::Expired) => Err(HubFault::Refused(HubRefusal::CompactionRefused)),
+            Err(CompactFault::TooLarge) => Err(HubFault::Refused(HubRefusal::CompactionRefused)),
             Err(CompactFault::Failed(fault)) => Err(HubFault::from(Fault::from(fault))),
         }
     }
@@ -151,20 +151,20 @@ impl Hub {
         }
     }
 
-    /// Handles an event. Once the bytes of a connection decide what is asked, the reply is written, and the connection has
-    /// ended, or watches. Refused, an event changes nothing; out of memory, an opening changes nothing,
-    /// and a connection that waits is dead where bytes come on it, a watch where it is pumped. At a tick each watch has
-    /// its turn, and only one that was out of memory for what it writes is dead. Bytes on one that has ended need no
-    /// memory. A compaction that fails changes nothing, and so do other types; these are read before they are refused, so
-    /// that memory may run out in place of a refusal. The store is asked where bytes come, at a pump, at a compaction and for
-    /// other types: no other event fails by it.
+    /// Handles an event. Once the bytes of a connection decide what is asked, the reply is written, and the connection
+    /// has ended, or watches. Refused, an event changes nothing; out of memory, an opening changes nothing, and a
+    /// connection that waits is dead where bytes come on it, a watch where it is pumped. At a tick each watch has its
+    /// turn, and only one that was out of memory for what it writes is dead. Bytes on one that has ended need no
+    /// memory. A compaction that fails changes nothing, and so do other types; these are read before they are refused,
+    /// so that memory may run out in place of a refusal. The store is asked where bytes come, at a pump, at a
+    /// compaction and for other types: no other event fails by it.
     pub fn on(&mut self, event: &Event) -> Result<(), HubFault>
         ensures follows { (s : State) → HubRepresents self.old s → (h : Action) × (t : State) × IsActionOf (event_of event.now) (outcome_of result) h × Follows s h t × HubRepresents self.new t }
         ensures runs { (r s : State) (before : List Action) → Runs r before s → HubRepresents self.old s → (h : Action) × (t : State) × IsActionOf (event_of event.now) (outcome_of result) h × Runs r (before ++ h ∷ []) t × HubRepresents self.new t }
         ensures refused { (s : State) → HubRepresents self.old s → ReportsOutcome s (event_of event.now) (outcome_of result) }
         ensures reported { ReportsFile (event_of event.now) result }
         ensures unchanged { refusal_in (outcome_of result) ≢ None → self.new ≡ self.old }
-        ensures store { asks_store (event_of event.now) ≡ false → result ≢ Err HubFault.Store }
+        ensures store { asks_store (event_of event.now) ≡ false → result ≢ Err (HubFault.Failed HubFailure.Store) }
     {
         match self.step(event) {
             Ok(_) => Ok(()),
@@ -172,15 +172,16 @@ impl Hub {
         }
     }
 
-    /// Handles an event as `on` does; what it did: how many bytes and lines it wrote on each connection, with which status, and
-    /// which connections ended. At a tick, a watch is also dead where there was no memory to tell of what it writes.
+    /// Handles an event as `on` does; what it did: how many bytes and lines it wrote on each connection, with which
+    /// status, and which connections ended. At a tick, a watch is also dead where there was no memory to tell of what
+    /// it writes.
     pub fn step(&mut self, event: &Event) -> Result<Effect, HubFault>
         ensures follows { (s : State) → HubRepresents self.old s → (h : Action) × (t : State) × IsActionOf (event_of event.now) (outcome_of result) h × Follows s h t × IfOk result (Does s (event_of event.now) t) × HubRepresents self.new t }
         ensures runs { (r s : State) (before : List Action) → Runs r before s → HubRepresents self.old s → (h : Action) × (t : State) × IsActionOf (event_of event.now) (outcome_of result) h × Runs r (before ++ h ∷ []) t × HubRepresents self.new t }
         ensures refused { (s : State) → HubRepresents self.old s → ReportsOutcome s (event_of event.now) (outcome_of result) }
         ensures reported { ReportsFile (event_of event.now) result }
         ensures unchanged { refusal_in (outcome_of result) ≢ None → self.new ≡ self.old }
-        ensures store { asks_store (event_of event.now) ≡ false → result ≢ Err HubFault.Store }
+        ensures store { asks_store (event_of event.now) ≡ false → result ≢ Err (HubFault.Failed HubFailure.Store) }
     {
         match event {
             Event::Open(id) => self.open(*id),
@@ -193,8 +194,8 @@ impl Hub {
         }
     }
 
-    /// Takes the first n bytes of what is out on a connection, at most all; nothing for an unknown id. Once all the bytes
-    /// of a connection that has ended are taken, its id alone is kept.
+    /// Takes the first n bytes of what is out on a connection, at most all; nothing for an unknown id. Once all the
+    /// bytes of a connection that has ended are taken, its id alone is kept.
     pub fn take(&mut self, id: u64, n: usize)
         ensures takes { (s : State) → HubRepresents self.old s → HubRepresents self.new (with_bytes_taken s id n) }
         ensures runs { (r s : State) (before : List Action) → Runs r before s → HubRepresents self.old s → Runs r (before ++ takes id n ∷ []) (with_bytes_taken s id n) }
@@ -224,8 +225,8 @@ impl Hub {
     }
 
     /// The event that gives the watch on a connection its next turn: a pump for all changes while it stands before the
-    /// current revision, else a tick at which the clock stands still while a bookmark is due. None where it has neither, on a
-    /// connection that doesn't watch, and for an unknown id.
+    /// current revision, else a tick at which the clock stands still while a bookmark is due. None where it has
+    /// neither, on a connection that doesn't watch, and for an unknown id.
     pub fn next_turn(&self, id: u64) -> Option<Event>
         ensures { (s : State) → HubRepresents self.now s → option_map event_of result ≡ next_turn s id }
     {
@@ -242,8 +243,8 @@ impl Hub {
         self.connections.highest().unwrap_or(0).checked_add(1)
     }
 
-    /// How many connections are held, and how many ranges of ids of those that are over: one for all that lie side by side and
-    /// had all ended, or all not. One that is over is held where there was no memory for its id.
+    /// How many connections are held, and how many ranges of ids of those that are over: one for all that lie side by
+    /// side and had all ended, or all not. One that is over is held where there was no memory for its id.
     pub fn kept(&self) -> (usize, usize)
         ensures { result ≡ kept_in self.now.connections }
     {

@@ -80,14 +80,14 @@ pub fn written_stays()
     ensures parts { (all : Connections) (id : ℕ) (c : Connection) → fin.get all id ≡ Some c → has_gone c.phase ≡ false → written_on all id ≡ take c.taken c.written ++ out_on all id }
 {}
 
-/// The machine stays a machine, whatever happens to the hub: calls, compactions, other types, events that are refused or out
-/// of memory.
+/// The machine stays a machine, whatever happens to the hub: calls, compactions, other types, events that are refused
+/// or out of memory.
 pub fn machines_last()
     ensures { (s t : State) (hs : List Action) → IsMachine s.types s.machine → Runs s hs t → IsMachine t.types t.machine }
 {}
 
-/// Whatever happens to a hub, its types keep their names, its history only grows, each change of the next revision, and neither of its
-/// numbers goes down; so the changes up to a revision that has come stay.
+/// Whatever happens to a hub, its types keep their names, its history only grows, each change of the next revision, and
+/// neither of its numbers goes down; so the changes up to a revision that has come stay.
 pub fn machines_grow()
     ensures one { (s t : State) (h : Action) → Follows s h t → HasGrown s t }
     ensures all { (s t : State) (hs : List Action) → Runs s hs t → HasGrown s t }

@@ -1,11 +1,11 @@
 //! The server's side of the wire: the hub, whose connections get bytes and give bytes. Streams are read and written in
 //! `serving` and `polling`.
 //!
-//! What each event makes of the hub's machine and of its connections is a function of its state and of the event; a watch
-//! writes at a pump or a tick.
+//! What each event makes of the hub's machine and of its connections is a function of its state and of the event; a
+//! watch writes at a pump or a tick.
 //!
-//! Stands on `requests` for what a connection's bytes ask and for the bytes of a reply, on `api_request` for calls, on `verbs` for
-//! the machine and on `watchline` for what a watch sends.
+//! Stands on `requests` for what a connection's bytes ask and for the bytes of a reply, on `api_request` for calls, on
+//! `verbs` for the machine and on `watchline` for what a watch sends.
 #![tactic(auto)]
 
 mod answering;
@@ -26,7 +26,7 @@ mod watching;
 
 pub use effect::{Change, Effect};
 pub use event::Event;
-pub use fault::HubFault;
+pub use fault::{HubFailure, HubFault, HubRefusal};
 pub use hub::Hub;
 pub use laws::{
     all_is_out, bytes_are_taken, each_changes, each_steps, ends_stay, gone_stays, machines_grow,

@@ -54,8 +54,8 @@ impl Out {
         self.bytes.extend_from_slice(more)
     }
 
-    /// Takes the first n bytes of what is left, at most all. Once all is taken, no buffer is kept; once more was taken than
-    /// is left, what is left moves to the front of the buffer.
+    /// Takes the first n bytes of what is left, at most all. Once all is taken, no buffer is kept; once more was taken
+    /// than is left, what is left moves to the front of the buffer.
     pub(crate) fn take(&mut self, alloc: Global, n: usize)
         ensures { left self.new ≡ drop n (left self.old) }
     {

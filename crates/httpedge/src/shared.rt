@@ -1,5 +1,5 @@
-//! What all connections share: the API, and the last turn in which a watch sent lines. How a turn changes a watch stands in
-//! `watching`.
+//! What all connections share: the API, and the last turn in which a watch sent lines. How a turn changes a watch
+//! stands in `watching`.
 
 ghost use Rattle.std.specs.Prelude.{◌≡◌, ◌↔◌, ◌<◌, ◌++◌, List, Err, Ok, IfErr, IfOk, IfSome, IsTrue, OnErr, OnOk};
 ghost use Rattle.api_types.specs.TypesFile.{ServedShape};
@@ -23,8 +23,8 @@ use watchline::{ResumePoint, WatchCursor};
 /// The bytes of a turn are kept up to so many: 1 MiB.
 const MOST_BYTES: usize = 1048576;
 
-/// A turn at a pump: where a watch stood and how many lines it could send, then what it wrote, what that did, and up to where
-/// it had sent.
+/// A turn at a pump: where a watch stood and how many lines it could send, then what it wrote, what that did, and up to
+/// where it had sent.
 #[derive(Drop)]
 pub(crate) struct CachedTurn {
     before: WatchCursor,
@@ -44,8 +44,8 @@ impl CachedTurn {
     }
 }
 
-/// How a watch stood before it sent these bytes, and up to where it has sent; none where the turn isn't kept: it sent nothing
-/// or too much, an object was left to be sent, or there is no memory for a copy.
+/// How a watch stood before it sent these bytes, and up to where it has sent; none where the turn isn't kept: it sent
+/// nothing or too much, an object was left to be sent, or there is no memory for a copy.
 fn span_to_cache(
     alloc: Global,
     bytes: &[u8],
@@ -82,8 +82,8 @@ impl Shared {
         Shared { api, last: None }
     }
 
-    /// The next lines of a watch are written, at most `max`; what that did. One that stands as the last one did writes what
-    /// that wrote. Out of memory nothing is written.
+    /// The next lines of a watch are written, at most `max`; what that did. One that stands as the last one did writes
+    /// what that wrote. Out of memory nothing is written.
     pub(crate) fn pump(
         &mut self,
         alloc: Global,

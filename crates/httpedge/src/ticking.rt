@@ -23,8 +23,8 @@ use std::alloc::Global;
 use std::collections::{BTreeMap, BTreeSet};
 use verbs::Api;
 
-/// A connection has its turn, if one is due, and what that did is told; whether it was out of memory, for its turn or to tell
-/// of it: then it is dead.
+/// A connection has its turn, if one is due, and what that did is told; whether it was out of memory, for its turn or
+/// to tell of it: then it is dead.
 fn tick_one(
     alloc: Global,
     api: &Api,
@@ -76,7 +76,8 @@ fn tick_at(
     }
 }
 
-/// Each connection has its turn, where each that is open is among these ids; what that did, unless one was out of memory.
+/// Each connection has its turn, where each that is open is among these ids; what that did, unless one was out of
+/// memory.
 pub(crate) fn tick_all(
     alloc: Global,
     api: &Api,

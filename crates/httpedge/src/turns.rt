@@ -49,14 +49,14 @@ pub(crate) fn pump_on(
             }
         },
         Connection::Head(_) => Ok(Change::none()),
-        Connection::Body(_) => Ok(Change::none()),
+        Connection::Body(_, _) => Ok(Change::none()),
         Connection::Ended(_) => Ok(Change::none()),
         Connection::Closed(_) => Ok(Change::none()),
     }
 }
 
-/// A connection at a tick; what that did, unless it was out of memory: then it is dead. One that doesn't watch stays as it
-/// is.
+/// A connection at a tick; what that did, unless it was out of memory: then it is dead. One that doesn't watch stays as
+/// it is.
 pub(crate) fn tick_on(
     alloc: Global,
     api: &Api,
@@ -84,7 +84,7 @@ pub(crate) fn tick_on(
             }
         },
         Connection::Head(_) => Some(Change::none()),
-        Connection::Body(_) => Some(Change::none()),
+        Connection::Body(_, _) => Some(Change::none()),
         Connection::Ended(_) => Some(Change::none()),
         Connection::Closed(_) => Some(Change::none()),
     }
@@ -96,7 +96,7 @@ pub(crate) fn is_due(connection: &Connection, ms: u64) -> bool
 {
     match connection {
         Connection::Watch(watch, _) => watch.is_due(ms),
-        Connection::Head(_) | Connection::Body(_) => false,
+        Connection::Head(_) | Connection::Body(_, _) => false,
         Connection::Ended(_) | Connection::Closed(_) => false,
     }
 }
@@ -109,7 +109,7 @@ pub(crate) fn kill_watch(alloc: Global, connection: &mut Connection)
         Connection::Watch(_, out) => {
             *connection = Connection::Ended(mem::replace(out, Out::empty(alloc)));
         }
-        Connection::Head(_) | Connection::Body(_) => {}
+        Connection::Head(_) | Connection::Body(_, _) => {}
         Connection::Ended(_) | Connection::Closed(_) => {}
     }
 }

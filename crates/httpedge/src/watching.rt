@@ -118,7 +118,8 @@ impl Watch {
         self.cursor.is_bookmark_due() || self.has_timed_out(ms)
     }
 
-    /// Its turn at a tick; what that did. Out of memory, it writes nothing more; where nothing is due it needs no memory.
+    /// Its turn at a tick; what that did. Out of memory, it writes nothing more; where nothing is due it needs no
+    /// memory.
     pub(crate) fn tick(
         &mut self,
         alloc: Global,

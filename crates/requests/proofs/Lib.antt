@@ -4,6 +4,7 @@ pub mod Cuts
 pub mod Deciding
 pub mod Digits
 pub mod Heading
+pub mod Lines
 pub mod Numbers
 pub mod RequestTargets
 pub mod Saying

@@ -1,5 +1,5 @@
 -- What the head of a request says (RFC 9112, sections 2.2, 3, 5 and 6), and when a prefix of a connection's bytes has it.
-use Rattle.std.specs.Prelude.{◌≡◌, ◌⊎◌, ℕ, Bool, ◌==◌, not, nat_lt, if◌then◌else◌, List, [], ◌∷◌, ◌++◌, length, map, take, drop, Option, Some, None, codes, nat_eq}
+use Rattle.std.specs.Prelude.{◌≡◌, ◌⊎◌, ℕ, Bool, ◌==◌, not, nat_lt, if◌then◌else◌, List, [], ◌∷◌, ◌++◌, length, map, take, drop, Option, Some, None, option_map, codes, nat_eq}
 use Rattle.std.specs.List.{list_any, starts_with, filter}
 use Rattle.httparse.specs.Grammar.{RequestHead, ReadsRequest}
 use Rattle.httparse.specs.Spans.{name_and_value}
@@ -75,6 +75,31 @@ validated method request_target minor fields rest =
     else if not (length (filter is_host fields) == 1) then refuse not_one_host
     else if not (starts_with nat_eq request_target (codes "/")) then refuse bad_head
     else accepted (request_of method request_target fields, rest)
+
+-- ---- its request line
+
+-- the head of the grammar that these bytes are, if they are one
+abbrev pub IsHead : List ℕ → Option RequestHead → Type 0
+IsHead bytes None = (h : RequestHead) → ¬ (ReadsRequest bytes h [])
+IsHead bytes (Some h) = ReadsRequest bytes h []
+
+-- the method and the request target
+abbrev pub line_in : RequestHead → List ℕ × List ℕ
+line_in h = (h.method, h.target)
+
+-- those of a head of these bytes, whatever else it says
+abbrev pub IsLineOf : List ℕ → Option (List ℕ × List ℕ) → Type 0
+IsLineOf bytes line = (head : Option RequestHead) × IsHead bytes head × (line ≡ option_map line_in head)
+
+abbrev pub IsLineAt : List ℕ → Option ℕ → Option (List ℕ × List ℕ) → Type 0
+IsLineAt bytes None line = line ≡ None
+IsLineAt bytes (Some n) line = IsLineOf (take n bytes) line
+
+-- the method and the request target of the head that these bytes begin with: none where it hasn't come whole within the limit, or is no head
+abbrev pub ReadsLine : List ℕ → Option (List ℕ × List ℕ) → Type 0
+ReadsLine bytes line = IsLineAt bytes (head_end (take max_head bytes)) line
+
+-- ---- what it says
 
 -- the same with more bytes after it
 abbrev pub with_more : List ℕ → Decision (Request × List ℕ) → Decision (Request × List ℕ)

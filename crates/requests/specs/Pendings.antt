@@ -1,5 +1,5 @@
 -- What the code knows of a request whose head has come.
-use Rattle.std.specs.Prelude.{◌≡◌, ℕ, List, ◌++◌, Option, Some, None, ⊤}
+use Rattle.std.specs.Prelude.{◌≡◌, ℕ, List, ◌++◌, drop, Option, Some, None, ⊤}
 use Rattle.api_types.specs.TypesFile.{ServedShape}
 use Rattle.api_request.specs.Calls.{Target}
 use Rattle.api_request.specs.Views.{call_of, denied_of, target_of}
@@ -19,18 +19,22 @@ asked_of (asking.Call c) = accepted (call_of c)
 abbrev pub sized_call : Target → List ℕ → ℕ → List ℕ → CallDecision
 sized_call target query length rest = and_then (body_of length rest) (λ body. accepted (record { target = target; query = query; body = body }))
 
-abbrev pub pending_call : pendings.Pending → List ℕ → CallDecision
-pending_call p = sized_call (target_of p.target) p.query.items p.length
+abbrev pub body_call : pendings.Pending → List ℕ → CallDecision
+body_call p = sized_call (target_of p.target) p.query.items p.length
 
--- a request that waits has these bytes of its body, and asks by all of them what f says
-abbrev pub Carries : (List ℕ → CallDecision) → List ℕ → askings.Progress → Type 0
-Carries f rest (asking.Pending p) = (p.body.items ≡ rest) × ((bytes : List ℕ) → f bytes ≡ pending_call p bytes)
-Carries f rest (asking.Refused d) = ⊤
-Carries f rest (asking.Call c) = ⊤
+-- the same by all the bytes of the connection
+abbrev pub pending_call : pendings.Pending → List ℕ → CallDecision
+pending_call p bytes = body_call p (drop p.head bytes)
+
+-- a request that waits has a head of so many bytes, and asks by its body what f says
+abbrev pub Carries : (List ℕ → CallDecision) → ℕ → askings.Progress → Type 0
+Carries f head (asking.Pending p) = (p.head ≡ head) × ((rest : List ℕ) → f rest ≡ body_call p rest)
+Carries f head (asking.Refused d) = ⊤
+Carries f head (asking.Call c) = ⊤
 
 -- whatever bytes follow these on the connection, they are the body's
 abbrev pub Awaits : List ServedShape → List ℕ → pendings.Pending → Type 0
-Awaits types prefix p = (more : List ℕ) → Asks types (prefix ++ more) (pending_call p (p.body.items ++ more))
+Awaits types prefix p = (more : List ℕ) → Asks types (prefix ++ more) (pending_call p (prefix ++ more))
 
 -- these bytes ask this
 abbrev pub Finds : List ServedShape → List ℕ → askings.Progress → Type 0

@@ -1,5 +1,5 @@
 -- What the crate's values say, without where they lie in memory.
-use Rattle.std.specs.Prelude.{◌≡◌, ℕ, Bool, true, ◌&&◌, ◌==◌, not, if◌then◌else◌, List, [], ◌∷◌, Option, option_map, ⊤}
+use Rattle.std.specs.Prelude.{◌≡◌, ◌≤◌, ℕ, drop, length, Bool, true, ◌&&◌, ◌==◌, not, if◌then◌else◌, List, [], ◌∷◌, Option, option_map, ⊤}
 use Rattle.std.specs.Char.{is_ascii_digit}
 use Rattle.std.specs.List.{list_all}
 use Rattle.httparse.specs.Grammar.{RequestHead, ReadsRequest}
@@ -21,6 +21,7 @@ use Rattle.requests.specs.declared.decision.Decision.TheVariants as decision
 use Rattle.requests.specs.declared.head.Length as lengths
 use Rattle.requests.specs.declared.head.Length.TheVariants as some_length
 use Rattle.requests.specs.declared.head.Head as heads
+use Rattle.requests.specs.declared.head.RequestLine as lines
 use Rattle.requests.specs.Refusals.{Refusal, head_too_large, bad_head, wrong_version, not_one_host, transfer_encoding, no_length, bad_length, body_too_large, not_json, too_many_connections}
 use Rattle.requests.specs.Decision.{Decision, undecided, refused, accepted}
 use Rattle.requests.specs.Heads.{Length, missing, malformed, number, Request}
@@ -78,6 +79,15 @@ request_in h = record {
 -- these bytes are a head, and the offsets are those of its parts
 abbrev pub IsWholeAt : List ℕ → List HeaderSpan → RequestSpans → Type 0
 IsWholeAt bytes headers parts = (h : RequestHead) × ReadsRequest bytes h [] × IsRequestAt bytes headers parts h
+
+abbrev pub line_seen : lines.RequestLine → List ℕ × List ℕ
+line_seen line = (line.method.now, line.request_target.now)
+
+-- an accepted head is so many of these bytes, and the others are after it
+abbrev pub EndsIn : List ℕ → decisions.Decision heads.Head → Type 0
+EndsIn bytes decision.Undecided = ⊤
+EndsIn bytes (decision.Refused d) = ⊤
+EndsIn bytes (decision.Accepted h) = (h.size ≤ length bytes) × (drop h.size bytes ≡ h.rest.now)
 
 -- the head, and the bytes after it
 abbrev pub head_of : heads.Head → Request × List ℕ

@@ -8,7 +8,8 @@ use crate::reply::{reply_bytes, watch_head};
 use api_request::{Answer, Denied, status_value};
 use std::alloc::{AllocError, Global};
 
-/// The bytes of a refusal's reply: its Status as compact JSON, with the status code of its reason (RFC 9110, section 15).
+/// The bytes of a refusal's reply: its Status as compact JSON, with the status code of its reason (RFC 9110, section
+/// 15).
 pub fn refusal_reply(alloc: Global, denied: Denied) -> Result<Vec<u8>, AllocError>
     ensures { IfOk result (λ v. v.items ≡ refusal_reply (denied_of denied)) }
 {

@@ -1,15 +1,15 @@
-//! What a connection asks, by all the bytes that came on it. Checks, in order: size and form of the head, number of fields,
-//! version, `Host`, request target (`read_to` of `head`); route, method, media type (`Routes::admit`); of a body Transfer-Encoding
-//! and length (`declared_length` of `body`), and once it has come JSON (`body_of`).
+//! What a connection asks, by all the bytes that came on it. Checks, in order: size and form of the head, number of
+//! fields, version, `Host`, request target (`read_to` of `head`); route, method, media type (`Routes::admit`); of a
+//! body Transfer-Encoding and length (`declared_length` of `body`), and once it has come JSON (`body_of`).
 
-ghost use Rattle.std.specs.Prelude.{◌≡◌, ◌++◌, ℕ, List, IfOk, take};
+ghost use Rattle.std.specs.Prelude.{◌≡◌, ◌++◌, ℕ, List, IfOk, drop, take};
 ghost use Rattle.api_types.specs.Served.{types_view};
 ghost use Rattle.api_types.specs.TypesFile.{ServedShape};
 ghost use Rattle.api_request.specs.Views.{target_of};
 ghost use Rattle.wire.specs.Heads.{head_end, max_head};
 ghost use Rattle.requests.specs.Asks.{call_with, call_in};
 ghost use Rattle.requests.specs.Bodies.{body_in, declared_body};
-ghost use Rattle.requests.specs.Pendings.{Awaits, Carries, Finds, FindsAll, asked_of, pending_call, sized_call};
+ghost use Rattle.requests.specs.Pendings.{Awaits, Carries, Finds, FindsAll, asked_of, body_call};
 ghost use Rattle.requests.specs.Views.{request_in};
 
 use crate::body::{body_of, declared_length};
@@ -20,14 +20,15 @@ use api_request::{AdmitFault, Call, Denied, Routes, Target};
 use api_types::Types;
 use std::alloc::{AllocError, Global};
 
-/// A request whose head has come, and of its body this much.
+/// A request whose head has come, and whose body hasn't come whole.
 #[derive(Debug, Drop)]
 pub struct Pending {
     target: Target,
     query: Vec<u8>,
+    /// How many bytes the head has.
+    head: usize,
     /// How many bytes the body has.
     length: usize,
-    body: Vec<u8>,
 }
 
 /// What a request asks once its head has come, or is known to be too long.
@@ -41,74 +42,49 @@ pub enum Progress {
     Call(Call),
 }
 
-/// What a request asks whose body has so many bytes, of which these have come.
-fn ask_body(
-    alloc: Global,
-    target: Target,
-    query: Vec<u8>,
-    length: usize,
-    body: Vec<u8>,
-) -> Result<Progress, AllocError>
-    ensures asks { IfOk result (λ a. asked_of a ≡ sized_call (target_of target) query.items length body.items) }
-    ensures carries { IfOk result (Carries (sized_call (target_of target) query.items length) body.items) }
+/// What a request asks by what came of its body.
+fn ask_body(alloc: Global, pending: Pending, rest: &[u8]) -> Result<Progress, AllocError>
+    ensures asks { IfOk result (λ a. asked_of a ≡ body_call pending rest.now) }
+    ensures carries { IfOk result (Carries (body_call pending) pending.head) }
 {
-    match body_of(alloc, length, &body)? {
-        Decision::Undecided => Ok(Progress::Pending(Pending {
-            target,
-            query,
-            length,
-            body,
-        })),
+    match body_of(alloc, pending.length, rest)? {
+        Decision::Undecided => Ok(Progress::Pending(pending)),
         Decision::Refused(denied) => Ok(Progress::Refused(denied)),
-        Decision::Accepted(body) => Ok(Progress::Call(Call {
-            target,
-            query,
-            body,
-        })),
+        Decision::Accepted(body) => {
+            let Pending {
+                target,
+                query,
+                head: _,
+                length: _,
+            } = pending;
+            Ok(Progress::Call(Call {
+                target,
+                query,
+                body,
+            }))
+        }
     }
 }
 
-/// What a connection asks once more bytes of its request's body have come; they are the body's, since the head has come whole
-/// (RFC 9112, section 6.3).
+/// The bytes after the first so many.
+fn bytes_after(bytes: &[u8], count: usize) -> &[u8]
+    ensures { result.now ≡ drop count bytes.now }
+{
+    if count < bytes.len() {
+        &bytes[count..]
+    } else {
+        &[]
+    }
+}
+
+/// What a connection asks by all its bytes, of which more have come; those after the head are the body's (RFC 9112,
+/// section 6.3).
 pub fn ask_on(alloc: Global, pending: Pending, bytes: &[u8]) -> Result<Progress, AllocError>
-    ensures { (types : List ServedShape) (prefix : List ℕ) → Awaits types prefix pending → IfOk result (Finds types (prefix ++ bytes.now)) }
+    ensures { (types : List ServedShape) (prefix more : List ℕ) → bytes.now ≡ prefix ++ more → Awaits types prefix pending → IfOk result (Finds types bytes.now) }
 {
-    let Pending {
-        target,
-        query,
-        length,
-        mut body,
-    } = pending;
-    body.extend_from_slice(bytes)?;
-    let asked = ask_body(alloc, target, query, length, body)?;
+    let rest = bytes_after(bytes, pending.head);
+    let asked = ask_body(alloc, pending, rest)?;
     Ok(asked)
-}
-
-/// As `ask_body`, of bytes that came with the head, which are copied only where more of them are needed.
-fn ask_sized(
-    alloc: Global,
-    target: Target,
-    query: Vec<u8>,
-    length: usize,
-    rest: &[u8],
-) -> Result<Progress, AllocError>
-    ensures asks { IfOk result (λ a. asked_of a ≡ sized_call (target_of target) query.items length rest.now) }
-    ensures carries { IfOk result (Carries (sized_call (target_of target) query.items length) rest.now) }
-{
-    match body_of(alloc, length, rest)? {
-        Decision::Undecided => Ok(Progress::Pending(Pending {
-            target,
-            query,
-            length,
-            body: Vec::from_slice(alloc, rest)?,
-        })),
-        Decision::Refused(denied) => Ok(Progress::Refused(denied)),
-        Decision::Accepted(body) => Ok(Progress::Call(Call {
-            target,
-            query,
-            body,
-        })),
-    }
 }
 
 /// What a request asks whose head says that its body has so many bytes, or that there is none.
@@ -119,7 +95,7 @@ fn ask_by_length(
     length: Option<usize>,
 ) -> Result<Progress, AllocError>
     ensures asks { IfOk result (λ a. asked_of a ≡ call_with (request_in head.now) (target_of target) (declared_body length head.now.rest.now)) }
-    ensures carries { IfOk result (Carries (λ rest. call_with (request_in head.now) (target_of target) (declared_body length rest)) head.now.rest.now) }
+    ensures carries { IfOk result (Carries (λ rest. call_with (request_in head.now) (target_of target) (declared_body length rest)) head.now.size) }
 {
     let query = Vec::from_slice(alloc, query_of(head.request_target).as_bytes())?;
     match length {
@@ -128,14 +104,22 @@ fn ask_by_length(
             query,
             body: None,
         })),
-        Some(length) => ask_sized(alloc, target, query, length, head.rest),
+        Some(length) => {
+            let pending = Pending {
+                target,
+                query,
+                head: head.size,
+                length,
+            };
+            ask_body(alloc, pending, head.rest)
+        }
     }
 }
 
 /// What a request asks that was admitted to this target.
 fn ask_admitted(alloc: Global, target: Target, head: &Head<'_>) -> Result<Progress, AllocError>
     ensures asks { IfOk result (λ a. asked_of a ≡ call_with (request_in head.now) (target_of target) (body_in (request_in head.now) head.now.rest.now)) }
-    ensures carries { IfOk result (Carries (λ rest. call_with (request_in head.now) (target_of target) (body_in (request_in head.now) rest)) head.now.rest.now) }
+    ensures carries { IfOk result (Carries (λ rest. call_with (request_in head.now) (target_of target) (body_in (request_in head.now) rest)) head.now.size) }
 {
     match declared_length(head) {
         Ok(length) => ask_by_length(alloc, target, head, length),
@@ -151,7 +135,7 @@ fn ask_by_head(
     head: &Head<'_>,
 ) -> Result<Progress, AllocError>
     ensures asks { IfOk result (λ a. asked_of a ≡ call_in (types_view types.now) (request_in head.now) head.now.rest.now) }
-    ensures carries { IfOk result (Carries (call_in (types_view types.now) (request_in head.now)) head.now.rest.now) }
+    ensures carries { IfOk result (Carries (call_in (types_view types.now) (request_in head.now)) head.now.size) }
 {
     match routes.admit(
         alloc,
@@ -166,8 +150,8 @@ fn ask_by_head(
     }
 }
 
-/// What the bytes that came on a connection ask where these types are served, by how many of them the head has (`ReadBuffer::find_end`); none while
-/// more of its head is to come.
+/// What the bytes that came on a connection ask where these types are served, by how many of them the head has
+/// (`ReadBuffer::find_end`); none while more of its head is to come.
 pub fn ask(
     alloc: Global,
     routes: &Routes,

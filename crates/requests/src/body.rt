@@ -13,10 +13,11 @@ use api_request::{Body, Denied, Method};
 use std::alloc::{AllocError, Global};
 use wire::decimal_value;
 
-pub(crate) const MAX_BODY: usize = 262_144;
+/// How many bytes a body has at most.
+pub const MAX_BODY: usize = 262_144;
 
 /// The message where a body is longer.
-pub(crate) const BODY_TOO_LARGE: &str = "body over 262144 bytes";
+pub const BODY_TOO_LARGE: &str = "body over 262144 bytes";
 
 fn needs_body(method: &str) -> bool
     ensures { result ≡ needs_body method.now }

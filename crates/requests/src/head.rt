@@ -6,9 +6,9 @@ ghost use Rattle.httparse.specs.Grammar.{RequestHead, ReadsRequest};
 ghost use Rattle.httparse.specs.Spans.{header_bytes, span_bytes, IsHeaderWithin, IsWithin, IsRequestWithin};
 ghost use Rattle.wire.specs.Heads.{head_end, max_head};
 ghost use Rattle.wire.specs.Lengths.{decimal_value, length_in};
-ghost use Rattle.requests.specs.Heads.{is_host, media_in, is_transfer_encoded, agreed, length_after, length_said, missing, number, validated, ReadsWholeHead, HeadDecision, ReadsHead, with_more};
+ghost use Rattle.requests.specs.Heads.{is_host, media_in, is_transfer_encoded, agreed, length_after, length_said, missing, number, validated, IsLineOf, ReadsWholeHead, HeadDecision, ReadsHead, with_more};
 ghost use Rattle.requests.specs.Decision.{undecided};
-ghost use Rattle.requests.specs.Views.{decision_of, head_of, is_plain, length_of, without_zeros, IsPlain, IsWholeAt};
+ghost use Rattle.requests.specs.Views.{decision_of, head_of, is_plain, length_of, line_seen, without_zeros, EndsIn, IsPlain, IsWholeAt};
 
 use crate::decision::Decision;
 use crate::head_end::end_of;
@@ -31,9 +31,18 @@ pub enum Length<'b> {
     Digits(&'b [u8]),
 }
 
+/// What a request's first line says (RFC 9112, section 3), but for the version.
+#[derive(Clone, Copy, Debug, PartialEq, Eq)]
+pub struct RequestLine<'b> {
+    pub method: &'b str,
+    pub request_target: &'b str,
+}
+
 /// What the server takes from a head (RFC 9112, sections 3, 5 and 6), and the bytes that came after it.
 #[derive(Clone, Copy, Debug)]
 pub struct Head<'b> {
+    /// How many bytes it has.
+    pub size: usize,
     pub method: &'b str,
     pub request_target: &'b str,
     /// The value of the first Content-Type.
@@ -171,7 +180,8 @@ fn validated<'b>(
     requires method_text { IsUtf8 (span_bytes head.now parts.method) }
     requires path_text { IsUtf8 (span_bytes head.now parts.path) }
     requires fields { All (IsHeaderWithin (length head.now)) fields.now }
-    ensures { decision_of head_of result ≡ validated (span_bytes head.now parts.method) (span_bytes head.now parts.path) parts.version (map (header_bytes head.now) fields.now) rest.now }
+    ensures says { decision_of head_of result ≡ validated (span_bytes head.now parts.method) (span_bytes head.now parts.path) parts.version (map (header_bytes head.now) fields.now) rest.now }
+    ensures ends { EndsIn (head.now ++ rest.now) result }
 {
     if fields.len() > MAX_FIELDS {
         return Decision::Refused(Refusal::HeadTooLarge.denied());
@@ -187,6 +197,7 @@ fn validated<'b>(
         return Decision::Refused(Refusal::BadHead.denied());
     }
     Decision::Accepted(Head {
+        size: head.len(),
         method: text_of(parts.method.of(head)),
         request_target: text_of(request_target),
         media: media_in(head, fields),
@@ -218,7 +229,8 @@ fn parts_of(head: &[u8], spans: &mut [HeaderSpan]) -> Option<RequestSpans>
 /// The validation of these bytes, however many fields they have.
 fn validate_long<'b>(head: &'b [u8], rest: &'b [u8]) -> Decision<Head<'b>>
     requires { length head.now ≤ max_head }
-    ensures { ReadsWholeHead head.now rest.now (decision_of head_of result) }
+    ensures says { ReadsWholeHead head.now rest.now (decision_of head_of result) }
+    ensures ends { EndsIn (head.now ++ rest.now) result }
 {
     let mut spans = [EMPTY_HEADER_SPAN; ROOM];
     match parts_of(head, &mut spans) {
@@ -227,11 +239,12 @@ fn validate_long<'b>(head: &'b [u8], rest: &'b [u8]) -> Decision<Head<'b>>
     }
 }
 
-/// The validation of the bytes up to the first empty line. Room for the fields of a head that is served comes first, since
-/// it costs as much to clear the room for all that there may be as to read a short head.
+/// The validation of the bytes up to the first empty line. Room for the fields of a head that is served comes first,
+/// since it costs as much to clear the room for all that there may be as to read a short head.
 fn validate<'b>(head: &'b [u8], rest: &'b [u8]) -> Decision<Head<'b>>
     requires { length head.now ≤ max_head }
-    ensures { ReadsWholeHead head.now rest.now (decision_of head_of result) }
+    ensures says { ReadsWholeHead head.now rest.now (decision_of head_of result) }
+    ensures ends { EndsIn (head.now ++ rest.now) result }
 {
     let mut spans = [EMPTY_HEADER_SPAN; MAX_FIELDS];
     match parts_of(head, &mut spans) {
@@ -240,10 +253,24 @@ fn validate<'b>(head: &'b [u8], rest: &'b [u8]) -> Decision<Head<'b>>
     }
 }
 
+/// The request line of these bytes, where they are a head, whatever it says.
+pub(crate) fn line_of(head: &[u8]) -> Option<RequestLine<'_>>
+    requires { length head.now ≤ max_head }
+    ensures { IsLineOf head.now (option_map line_seen result) }
+{
+    let mut spans = [EMPTY_HEADER_SPAN; ROOM];
+    let parts = parts_of(head, &mut spans)?;
+    Some(RequestLine {
+        method: text_of(parts.method.of(head)),
+        request_target: text_of(parts.path.of(head)),
+    })
+}
+
 /// What these bytes say of a head that has so many bytes, or none while it hasn't come whole.
 pub(crate) fn read_to(bytes: &[u8], end: Option<usize>) -> Decision<Head<'_>>
     requires { end ≡ head_end (take max_head bytes.now) }
-    ensures { ReadsHead bytes.now (decision_of head_of result) }
+    ensures says { ReadsHead bytes.now (decision_of head_of result) }
+    ensures ends { EndsIn bytes.now result }
 {
     match end {
         Some(end) => {

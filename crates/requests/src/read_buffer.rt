@@ -54,8 +54,16 @@ impl ReadBuffer {
         &self.bytes
     }
 
-    /// How many bytes the head has, where it ends within the 16,384 bytes that a head may have (RFC 9112, section 2.2); the
-    /// search goes on where the last one stopped.
+    /// The same by value.
+    pub fn into_bytes(self) -> Vec<u8>
+        ensures { result.items ≡ buffered self }
+    {
+        let ReadBuffer { bytes, searched: _ } = self;
+        bytes
+    }
+
+    /// How many bytes the head has, where it ends within the 16,384 bytes that a head may have (RFC 9112, section 2.2);
+    /// the search goes on where the last one stopped.
     pub fn find_end(&mut self) -> Option<usize>
         ensures end { result ≡ head_end (take max_head (buffered self.old)) }
         ensures bytes { buffered self.new ≡ buffered self.old }

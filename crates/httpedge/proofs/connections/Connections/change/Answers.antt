@@ -34,7 +34,7 @@ returns-in-Ok-clause-known c = λ types m d x represents at holds.
     let made = if_ok_is (λ did. MakesRepresented types m c.args.last_tick c.args.what x new did c.change-changed.new.shared) c.change-changed.result _ c.in-Ok.is (c.change-changed.ensures.ok types m x represents (subst (λ (e : conns.Connection). ConnectionRepresents types e x) same holds)) in
     let still = c.is_open-still_open.ensures ∙ same_open types new made.0 made.2 in (
       made.0,
-      c.in-Ok.change,
+      c.in-Ok.done,
       made.1,
       c.of.ensures,
       becomes_at types (is_open made.0.phase) made.0 id self c.close.new.self c.forget.new.self (c.get_mut.follows.lender new) new made.2 (ap is_some (sym c.in-Some.ensures.value)) at.2
