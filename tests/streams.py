@@ -45,7 +45,7 @@ NAMED["no-request"] = b'\xff a"b\n\n'
 STAYS = "added"
 # A stream is quiet that gives nothing for so many seconds.
 QUIET = 0.1
-LOGGED = re.compile(r"(\d+\.\d{3}) (.*) \d+")
+LOGGED = re.compile(r"(\d+\.\d{3}) (.*) \d+\.\d{3}")
 
 
 def heard(stream: socket.socket, count: int) -> bytes:

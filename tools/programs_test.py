@@ -11,6 +11,8 @@ import json
 import os
 import queue
 import re
+import resource
+import signal
 import socket
 import subprocess
 import sys
@@ -18,7 +20,7 @@ import tempfile
 import threading
 import time
 import unittest
-from collections.abc import Iterator
+from collections.abc import Callable, Iterator
 from contextlib import contextmanager
 from typing import Any
 
@@ -86,16 +88,37 @@ def applied(tags: list[str], name: str = "w1") -> str:
     )
 
 
+def closing(*numbers: int) -> Callable[[], None]:
+    """What a child does before its program: these descriptors are closed."""
+
+    def close() -> None:
+        for number in numbers:
+            os.close(number)
+
+    return close
+
+
+def without_room(size: int) -> Callable[[], None]:
+    """What a child does before its program: no file may have more than so many bytes."""
+
+    def limit() -> None:
+        signal.signal(signal.SIGXFSZ, signal.SIG_IGN)
+        resource.setrlimit(resource.RLIMIT_FSIZE, (size, size))
+
+    return limit
+
+
 class Server:
     """A server on a free port, and what it says on its standard error."""
 
-    def __init__(self, *words: str) -> None:
+    def __init__(self, *words: str, before: Callable[[], None] | None = None) -> None:
         self.process = subprocess.Popen(
             [path_of("ssa_server"), *words, "--port", "0"],
             stdin=subprocess.DEVNULL,
             stdout=subprocess.PIPE,
             stderr=subprocess.PIPE,
             text=True,
+            preexec_fn=before,
         )
         assert self.process.stdout is not None
         self.port = int(self.process.stdout.readline().rpartition(":")[2])
@@ -135,13 +158,30 @@ class Server:
 
 
 @contextmanager
-def serving(*words: str) -> Iterator[Server]:
+def serving(*words: str, before: Callable[[], None] | None = None) -> Iterator[Server]:
     """A server that is killed at the end of the block."""
-    server = Server(*words)
+    server = Server(*words, before=before)
     try:
         yield server
     finally:
         server.end()
+
+
+@contextmanager
+def unread(*words: str) -> Iterator[tuple[subprocess.Popen[str], int]]:
+    """A server whose standard error nobody reads, and its port."""
+    with subprocess.Popen(
+        [path_of("ssa_server"), *words, "--port", "0"],
+        stdin=subprocess.DEVNULL,
+        stdout=subprocess.PIPE,
+        stderr=subprocess.PIPE,
+        text=True,
+    ) as process:
+        try:
+            assert process.stdout is not None
+            yield process, int(process.stdout.readline().rpartition(":")[2])
+        finally:
+            process.kill()
 
 
 class InRoom(unittest.TestCase):
@@ -258,6 +298,30 @@ class Ends(InRoom):
                 done = run("ssa_mirror", *words, "--port", port, stdout=full)
             self.assertEqual((done.returncode, done.stderr), (1, said))
 
+    def test_help_that_cannot_be_written(self) -> None:
+        """To a full device, and to an output that is closed."""
+        full_said = "standard output: No space left on device (os error 28)\n"
+        closed_said = "standard output: Bad file descriptor (os error 9)\n"
+        for name in ("ssa_server", "ssa_replay", "ssa_pipe", "ssa_loop", "ssa_mirror"):
+            for word in ("--help", "--version"):
+                with self.subTest(name, word=word):
+                    with open("/dev/full", "w", encoding="utf-8") as full:
+                        done = run(name, word, stdout=full)
+                    self.assertEqual((done.returncode, done.stderr), (1, full_said))
+                    done = run(name, word, preexec_fn=closing(1))
+                    self.assertEqual((done.returncode, done.stderr), (1, closed_said))
+                    self.assertEqual(run(name, word).returncode, 0)
+
+    def test_signals(self) -> None:
+        """Each ends a server that serves."""
+        for number in (signal.SIGTERM, signal.SIGINT, signal.SIGHUP, signal.SIGQUIT):
+            for mode in ((), ("--concurrent",)):
+                words = ("--types", self.types, *mode)
+                with self.subTest(number.name, mode=mode), serving(*words) as server:
+                    self.assertEqual(server.version(), "1")
+                    server.process.send_signal(number)
+                    self.assertEqual(server.process.wait(SECONDS), -number)
+
     def test_so_many_connections(self) -> None:
         """A server ends well once it has served as many as it is told."""
         for mode in ((), ("--concurrent",)):
@@ -316,7 +380,7 @@ class Tells(InRoom):
 
     def test_a_log_and_a_record(self) -> None:
         """A line for each request; a script that gives each reply again."""
-        line = re.compile(r"\d+\.\d{3} (\d+) (\S+) (\S+) (\d+) (\d+) \d+")
+        line = re.compile(r"\d+\.\d{3} (\d+) (\S+) (\S+) (\d+) (\d+) (\S+) \d+\.\d{3}")
         for mode in ((), ("--concurrent",)):
             script = f"{self.room}/script{len(mode)}"
             words = ("--types", self.types, "--log", "--record", script, *mode)
@@ -325,8 +389,8 @@ class Tells(InRoom):
                 replies = [reply_to(server.port, it) for it in asked]
                 told = [line.fullmatch(server.said()) for _ in asked]
                 wanted = [
-                    (it.split()[0], it.split()[1], reply.split()[1], str(len(reply)))
-                    for it, reply in zip(asked, replies)
+                    (*it.split()[:2], reply.split()[1], str(len(reply)), manager)
+                    for it, reply, manager in zip(asked, replies, ("alice", "-", "-"))
                 ]
                 self.assertEqual([it and it.groups()[1:] for it in told], wanted)
                 ids = [it and int(it[1]) for it in told]
@@ -337,6 +401,60 @@ class Tells(InRoom):
                 )
                 # (what a program prints is read with line ends of one kind)
                 self.assertEqual(played.stdout, printed.replace("\r\n", "\n"))
+
+    def test_closed_standard_streams(self) -> None:
+        """What is told on a closed one is in no reply and in no record."""
+        for numbers in ((2,), (0, 2), (0, 1, 2)):
+            for mode in ((), ("--concurrent",)):
+                script = f"{self.room}/script{len(numbers)}{len(mode)}"
+                words = ("--types", self.types, "--log", "--record", script, *mode)
+                with self.subTest(numbers, mode=mode):
+                    if 1 in numbers:
+                        # (nobody can be told the port)
+                        done = run("ssa_server", *words, preexec_fn=closing(*numbers))
+                        self.assertEqual((done.returncode, done.stderr), (1, ""))
+                        continue
+                    with serving(*words, before=closing(*numbers)) as server:
+                        replies = [reply_to(server.port, LIST) for _ in range(3)]
+                        for reply in replies:
+                            self.assertTrue(reply.startswith("HTTP/1.1 200 "), reply)
+                    with open(script, encoding="utf-8") as it:
+                        for line in it:
+                            json.loads(line)
+
+    def test_a_log_that_nobody_reads(self) -> None:
+        """Requests are answered once a pipe is full, and what was left out is counted."""
+        count = 2000
+        counted = re.compile(r"(\d+) lines were left out, since nobody read them")
+        for mode in ((), ("--concurrent",)):
+            words = ("--types", self.types, "--log", *mode)
+            with self.subTest(mode), unread(*words) as (process, port):
+                for _ in range(count):
+                    self.assertIn(" 200 OK", reply_to(port, LIST))
+                assert process.stderr is not None
+                lines = [process.stderr.readline() for _ in range(500)]
+                reply_to(port, LIST)
+                while not (found := counted.fullmatch(lines[-1].rstrip("\n"))):
+                    lines.append(process.stderr.readline())
+                kept = len(lines) - 1
+                self.assertEqual(kept + int(found[1]), count)
+                self.assertIn(f"GET {WIDGETS} 200 ", process.stderr.readline())
+
+    def test_a_record_without_room(self) -> None:
+        """It ends with a whole line, and can be played."""
+        for size in (1000, 1001, 1500):
+            script = f"{self.room}/script{size}"
+            words = ("--types", self.types, "--record", script)
+            with self.subTest(size), serving(*words, before=without_room(size)) as it:
+                for n in range(5):
+                    self.assertIn(" 201 ", reply_to(it.port, applied(["a"], f"w{n}")))
+                said = f"record {script}: File too large (os error 27)"
+                self.assertEqual(it.said(), said)
+            with open(script, encoding="utf-8") as lines:
+                text = lines.read()
+            self.assertTrue(0 < len(text) <= size and text.endswith("\n"), text)
+            played = run("ssa_replay", "--types", self.types, "--script", script)
+            self.assertEqual(played.returncode, 0)
 
 
 if __name__ == "__main__":

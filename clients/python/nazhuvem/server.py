@@ -78,7 +78,7 @@ class Server:
             self._stop()
             raise
         self.url: str = f"http://127.0.0.1:{self.port}"
-        # Nobody else reads what it says, so it would wait once the pipe is full.
+        # Nobody else reads what it says, and what a full pipe has no room for is left out.
         self._reader = threading.Thread(target=self._read, daemon=True)
         self._reader.start()
         _servers.add(self)

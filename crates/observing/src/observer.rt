@@ -1,14 +1,19 @@
 //! What an observer of a hub's events is. How events are handed on stands in `handing`.
 
-use httpedge::{Event, Hub, HubFault};
+use httpedge::{Effect, Event, Hub, HubFault};
+use std::io::ErrorKind;
 
 /// What is told all that happens to a hub.
 pub trait Observer {
-    /// This event is the next one, and the hub before it: what it leads to isn't done yet.
-    fn sees(&mut self, hub: &Hub, event: &Event);
+    /// This event is the next one: what it leads to isn't done yet.
+    fn sees(&mut self, event: &Event);
 
-    /// What the event came to, and the hub after it.
-    fn learns(&mut self, hub: &Hub, event: &Event, done: &Result<(), HubFault>);
+    /// What the event did, or why it wasn't done, and the hub after it.
+    fn learns(&mut self, hub: &Hub, event: &Event, done: &Result<Effect, HubFault>);
+
+    /// A connection is closed because the system or memory failed its stream: what was asked on it, or what is left of its
+    /// reply, is lost.
+    fn loses(&mut self, id: u64, why: ErrorKind);
 }
 
 /// Nobody is told anything.
@@ -16,7 +21,9 @@ pub trait Observer {
 pub struct Unobserved;
 
 impl Observer for Unobserved {
-    fn sees(&mut self, _hub: &Hub, _event: &Event) {}
+    fn sees(&mut self, _event: &Event) {}
 
-    fn learns(&mut self, _hub: &Hub, _event: &Event, _done: &Result<(), HubFault>) {}
+    fn learns(&mut self, _hub: &Hub, _event: &Event, _done: &Result<Effect, HubFault>) {}
+
+    fn loses(&mut self, _id: u64, _why: ErrorKind) {}
 }

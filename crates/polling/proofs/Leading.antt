@@ -1,6 +1,6 @@
 -- What happens in turn, joined.
 use Rattle.std.proofs.Common.{◌≡◌, ◌≢◌, ℕ, Bool, true, false, List, [], ◌∷◌, ◌++◌, take, drop, length, Option, refl, sym, ap, subst, ◌∙◌, append_assoc, append-nil}
-use Rattle.std.specs.Prelude.{◌==◌}
+use Rattle.std.specs.Prelude.{◌-◌, ◌==◌, nat_lt}
 use Rattle.std.specs.List.{flat_map}
 use Rattle.std.specs.declared.result.Result.{Result}
 use Rattle.std.proofs.lemmas.Grind.{flat_map-append}
@@ -8,15 +8,15 @@ use Rattle.std.proofs.lemmas.List.{take-append-drop}
 use Rattle.std.specs.Io.KnownBytes.{Appends, Consumes, Keeps}
 use Rattle.std.proofs.KnownBytes.{Appends-kept, Appends-nil, Appends-trans, Consumes-nil, Consumes-trans}
 use Rattle.httpedge.specs.Connections.{out_on}
-use Rattle.httpedge.specs.HubViews.{IsActionOf, HubRepresents, Outcome, ReportsOutcome as SendsWhy, ReportsFile, outcome_of}
-use Rattle.httpedge.specs.Runs.{Follows, Action, IsElsewhere, Runs, came, happens, runs_out_of_memory, subject, takes}
-use Rattle.httpedge.specs.Steps.{Event, State, comes, with_bytes_taken}
+use Rattle.httpedge.specs.HubViews.{IsActionOf, HubRepresents, ReportsOutcome as SendsWhy, ReportsFile, outcome_of}
+use Rattle.httpedge.specs.Runs.{Follows, Action, IsElsewhere, Runs, bytes_of, came, happens, runs_out_of_memory, subject, takes}
+use Rattle.httpedge.specs.Steps.{Event, State, comes, compacts, with_bytes_taken}
 use Rattle.httpedge.specs.StreamViews.{Compacts, MovesBy, Hands, HandsIf}
 use Rattle.httpedge.specs.declared.fault.HubFault.{HubFault}
 use Rattle.httpedge.specs.declared.hub.Hub.{Hub}
 use Rattle.httpedge.proofs.Handed.{by_hands, runs_then}
 use Rattle.wire.proofs.Pieces.{reads_none}
-use Rattle.polling.specs.Happens.{Answers, Each, Receives, IsAny, IsComing, IsOn, IsTaking, Reaches, ReachesBy, ReachesOn, SendsBytes}
+use Rattle.polling.specs.Happens.{Answers, BringsNone, Each, Receives, IsAny, IsComing, IsTaking, IsUnaskedOn, Reaches, ReachesBy, ReachesUnasked, ReachesUnaskedOn, SendsBytes, Talks}
 
 wrong : false ≡ true → ⊥
 wrong e = cc
@@ -50,9 +50,6 @@ reaches_weaker P Q x y weaker reaches = λ s is.
     let one = reaches s is in
     (one.0, one.1, one.2, each_weaker P Q weaker one.0 one.3, one.4)
 
-pub reaches_any : (id : ℕ) (x y : Hub) → ReachesOn id x y → Reaches x y
-reaches_any id x y reaches = reaches_weaker (IsOn id) IsAny x y (λ h on. tt) reaches
-
 pub reaches_same : (P : Action → Type 0) (x y : Hub) → y ≡ x → ReachesBy P x y
 reaches_same P x y same = subst (λ (z : Hub). ReachesBy P x z) (sym same) (reaches_none P x)
 
@@ -66,6 +63,22 @@ any_none x = reaches_none IsAny x
 pub any_same : (x y : Hub) → y ≡ x → Reaches x y
 any_same x y same = reaches_same IsAny x y same
 
+-- the same where no bytes come
+pub unasked_then : (x y z : Hub) → ReachesUnasked x y → ReachesUnasked y z → ReachesUnasked x z
+unasked_then x y z first second = reaches_then BringsNone x y z first second
+
+pub unasked_none : (x : Hub) → ReachesUnasked x x
+unasked_none x = reaches_none BringsNone x
+
+pub unasked_same : (x y : Hub) → y ≡ x → ReachesUnasked x y
+unasked_same x y same = reaches_same BringsNone x y same
+
+pub unasked_any : (x y : Hub) → ReachesUnasked x y → Reaches x y
+unasked_any x y reaches = reaches_weaker BringsNone IsAny x y (λ h none. tt) reaches
+
+pub unasked_all : (id : ℕ) (x y : Hub) → ReachesUnaskedOn id x y → ReachesUnasked x y
+unasked_all id x y reaches = reaches_weaker (IsUnaskedOn id) BringsNone x y (λ h on. on.1) reaches
+
 -- ---- one event
 
 reaches_event : (x y : Hub) (e : Event) (P : Action → Type 0) → P (happens e) → ((which : ℕ → Bool) → P (runs_out_of_memory e which)) → MovesBy (Hands e) x y → ReachesBy P x y
@@ -73,17 +86,14 @@ reaches_event x y e P done none hands = λ s is.
     let one = hands s is in
     (one.1.0 ∷ [], one.0, (one.0, one.1.2, refl), (by_hands e P done none one.1.0 one.1.1, tt), one.2)
 
-pub reaches_on : (id : ℕ) (x y : Hub) (e : Event) → ((other : ℕ) → other ≢ id → IsElsewhere (subject e) other) → MovesBy (Hands e) x y → ReachesOn id x y
-reaches_on id x y e apart hands = reaches_event x y e (IsOn id) apart (λ which. apart) hands
+pub unasked_on : (id : ℕ) (x y : Hub) (e : Event) → MovesBy (Hands e) x y → ((other : ℕ) → other ≢ id → IsElsewhere (subject e) other) → bytes_of e ≡ [] → ReachesUnaskedOn id x y
+unasked_on id x y e hands apart none = reaches_event x y e (IsUnaskedOn id) (apart, none) (λ which. (apart, none)) hands
+
+pub unasked_event : (x y : Hub) (e : Event) → MovesBy (Hands e) x y → bytes_of e ≡ [] → ReachesUnasked x y
+unasked_event x y e hands none = reaches_event x y e BringsNone none (λ which. none) hands
 
 pub reaches_by_any : (x y : Hub) (e : Event) → MovesBy (Hands e) x y → Reaches x y
 reaches_by_any x y e hands = reaches_event x y e IsAny tt (λ which. tt) hands
-
--- a call of the hub, however it ended
-pub reaches_by_call : (x y : Hub) (e : Event) (o : Outcome) → ((s : State) → HubRepresents x s → (h : Action) × (t : State) × IsActionOf e o h × Follows s h t × HubRepresents y t) → Reaches x y
-reaches_by_call x y e o follows = λ s is.
-    let one = follows s is in
-    (one.0 ∷ [], one.1, (one.1, one.3, refl), (tt, tt), one.4)
 
 -- what the hub says of an event, and others after it
 pub answers_then : {A : Type 0} (x y z : Hub) (e : Event) (r : Result A HubFault) → ReportsFile e r → ((s : State) → HubRepresents x s → SendsWhy s e (outcome_of r))
@@ -97,14 +107,14 @@ answers_then x y z e r of_file sent_bytes follows more = (
 )
 
 -- a compaction, or none
-any_if : (b : Bool) (e : Event) (s t : State) → HandsIf b e s t → (hs : List Action) × Runs s hs t × Each IsAny hs
-any_if true e s t (h, is, follows) = (h ∷ [], (t, follows, refl), (tt, tt))
-any_if false e s t is = ([], is, tt)
+none_if : (b : Bool) (e : Event) (s t : State) → HandsIf b e s t → bytes_of e ≡ [] → (hs : List Action) × Runs s hs t × Each BringsNone hs
+none_if true e s t (h, is, follows) none = (h ∷ [], (t, follows, refl), (by_hands e BringsNone none (λ which. none) h is, tt))
+none_if false e s t is none = ([], is, tt)
 
-pub reaches_compacts : (keep : ℕ) (x y : Hub) → MovesBy (Compacts keep) x y → Reaches x y
-reaches_compacts keep x y compacted = λ s is.
+pub unasked_compacts : (keep : ℕ) (x y : Hub) → MovesBy (Compacts keep) x y → ReachesUnasked x y
+unasked_compacts keep x y compacted = λ s is.
     let one = compacted s is in
-    let ran = any_if _ _ s one.0 one.1 in
+    let ran = none_if (nat_lt s.machine.compacted (s.machine.current - keep)) (compacts (s.machine.current - keep)) s one.0 one.1 refl in
     (ran.0, one.0, ran.1, ran.2, one.2)
 
 -- ---- bytes that come
@@ -135,13 +145,10 @@ receives_then id a b x y z first second = λ s is.
       two.5,
     )
 
-coming_on : (id : ℕ) (h : Action) → IsComing id h → IsOn id h
-coming_on id h (bytes, is) = by_hands (comes id bytes) (IsOn id) (λ other isnt. isnt) (λ which other isnt. isnt) h is
-
-pub receives_reaches : (id : ℕ) (received : List ℕ) (x y : Hub) → Receives id received x y → ReachesOn id x y
+pub receives_reaches : (id : ℕ) (received : List ℕ) (x y : Hub) → Receives id received x y → Reaches x y
 receives_reaches id received x y receives = λ s is.
     let one = receives s is in
-    (one.0, one.1, one.2, each_weaker (IsComing id) (IsOn id) (coming_on id) one.0 one.3, one.5)
+    (one.0, one.1, one.2, each_weaker (IsComing id) IsAny (λ h coming. tt) one.0 one.3, one.5)
 
 -- ---- bytes that are taken
 
@@ -175,13 +182,13 @@ sends_then id a b x y z first second = λ s is.
       two.5,
     )
 
-taking_on : (id : ℕ) (h : Action) → IsTaking id h → IsOn id h
-taking_on id h (n, is) = subst (IsOn id) (sym is) (λ other isnt. isnt)
+taking_unasked : (id : ℕ) (h : Action) → IsTaking id h → IsUnaskedOn id h
+taking_unasked id h (n, is) = subst (IsUnaskedOn id) (sym is) ((λ other isnt. isnt), refl)
 
-pub sends_reaches : (id : ℕ) (sent_bytes : List ℕ) (x y : Hub) → SendsBytes id sent_bytes x y → ReachesOn id x y
-sends_reaches id sent_bytes x y sends = λ s is.
+pub sends_unasked : (id : ℕ) (sent_bytes : List ℕ) (x y : Hub) → SendsBytes id sent_bytes x y → ReachesUnaskedOn id x y
+sends_unasked id sent_bytes x y sends = λ s is.
     let one = sends s is in
-    (one.0, one.1, one.2, each_weaker (IsTaking id) (IsOn id) (taking_on id) one.0 one.3, one.5)
+    (one.0, one.1, one.2, each_weaker (IsTaking id) (IsUnaskedOn id) (taking_unasked id) one.0 one.3, one.5)
 
 -- ---- with what a reader has left, or a writer holds
 
@@ -203,9 +210,6 @@ hands_more id a b c x y z before more = hands_then id a b c x y z more.0 before 
 pub hands_end : (id : ℕ) (a b : Option (List ℕ)) (x : Hub) (piece : List ℕ) → Consumes a b piece → (length piece == 0) ≡ true → HandsOver id a b x x
 hands_end id a b x piece read none = ([], reads_none a b piece read none, receives_none id x)
 
-pub hands_reaches : (id : ℕ) (a b : Option (List ℕ)) (x y : Hub) → HandsOver id a b x y → ReachesOn id x y
-hands_reaches id a b x y hands = receives_reaches id hands.0 x y hands.2
-
 -- what the writer got was taken of the connection
 abbrev pub WritesOut : ℕ → Option (List ℕ) → Option (List ℕ) → Hub → Hub → Type 0
 WritesOut id a b x y = (sent_bytes : List ℕ) × Appends a b sent_bytes × SendsBytes id sent_bytes x y
@@ -223,5 +227,19 @@ writes_kept id a b c x y before kept = (before.0, Appends-kept a b c before.0 be
 pub writes_more : (id : ℕ) (a b c : Option (List ℕ)) (x y z : Hub) → WritesOut id a b x y → WritesOut id b c y z → WritesOut id a c x z
 writes_more id a b c x y z before more = writes_then id a b c x y z more.0 before more.1 more.2
 
-pub writes_reaches : (id : ℕ) (a b : Option (List ℕ)) (x y : Hub) → WritesOut id a b x y → ReachesOn id x y
-writes_reaches id a b x y writes = sends_reaches id writes.0 x y writes.2
+-- bytes that came, and bytes that were written after them
+pub talks : (id : ℕ) (a b d e : Option (List ℕ)) (sent_bytes : List ℕ) (x y z : Hub) → HandsOver id a b x y → Appends d e sent_bytes → SendsBytes id sent_bytes y z → Talks id a b d e x z
+talks id a b d e sent_bytes x y z hands written sends = record {
+  received = hands.0;
+  sent_bytes = sent_bytes;
+  between = y;
+  reads = hands.1;
+  receives = hands.2;
+  writes = written;
+  sends = sends;
+}
+
+pub talks_reach : (id : ℕ) (a b d e : Option (List ℕ)) (x z : Hub) → Talks id a b d e x z → Reaches x z
+talks_reach id a b d e x z spoke =
+    any_then x spoke.between z (receives_reaches id spoke.received x spoke.between spoke.receives)
+    (unasked_any spoke.between z (unasked_all id spoke.between z (sends_unasked id spoke.sent_bytes spoke.between z spoke.sends)))

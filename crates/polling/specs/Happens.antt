@@ -1,5 +1,6 @@
 -- What happens to a hub while its connections are served (RFC 9112, section 9): events, and bytes that are taken, in turn.
-use Rattle.std.specs.Prelude.{◌≡◌, ◌≢◌, ℕ, List, [], ◌∷◌, ◌++◌, Some, ⊤}
+use Rattle.std.specs.Prelude.{◌≡◌, ◌≢◌, ℕ, List, [], ◌∷◌, ◌++◌, Option, Some, ⊤}
+use Rattle.std.specs.Io.KnownBytes.{Appends, Consumes}
 use Rattle.std.specs.List.{flat_map}
 use Rattle.httpedge.specs.Connections.{out_on}
 use Rattle.std.specs.declared.result.Result.{Result}
@@ -25,6 +26,13 @@ IsAny h = ⊤
 abbrev pub Reaches : Hub → Hub → Type 0
 Reaches old new = ReachesBy IsAny old new
 
+-- the same, where no bytes come on any connection
+abbrev pub BringsNone : Action → Type 0
+BringsNone h = came h ≡ []
+
+abbrev pub ReachesUnasked : Hub → Hub → Type 0
+ReachesUnasked old new = ReachesBy BringsNone old new
+
 -- ---- one event, and what comes after it
 
 -- the answer is what the hub says of this event at this state: that it is refused, and why, or that it isn't; it leads to another
@@ -44,8 +52,12 @@ Answers e answer old new = ReportsFile e answer × ((s : State) → HubRepresent
 abbrev pub IsOn : ℕ → Action → Type 0
 IsOn id h = (other : ℕ) → other ≢ id → HappensElsewhere h other
 
-abbrev pub ReachesOn : ℕ → Hub → Hub → Type 0
-ReachesOn id old new = ReachesBy (IsOn id) old new
+-- the same, where no bytes come
+abbrev pub IsUnaskedOn : ℕ → Action → Type 0
+IsUnaskedOn id h = IsOn id h × BringsNone h
+
+abbrev pub ReachesUnaskedOn : ℕ → Hub → Hub → Type 0
+ReachesUnaskedOn id old new = ReachesBy (IsUnaskedOn id) old new
 
 -- ---- bytes that come
 
@@ -68,3 +80,15 @@ abbrev pub SendsBytes : ℕ → List ℕ → Hub → Hub → Type 0
 SendsBytes id sent_bytes old new =
     (s : State) → HubRepresents old s
     → (hs : List Action) × (t : State) × Runs s hs t × Each (IsTaking id) hs × (out_on s.connections id ≡ sent_bytes ++ out_on t.connections id) × HubRepresents new t
+
+-- ---- a turn
+
+-- the bytes that left a reader came on the connection, then those that a writer got were taken of it, and nothing else happened
+pub record Talks (id : ℕ) (unread left held holds : Option (List ℕ)) (old new : Hub) : Type 0 where
+  pub received : List ℕ
+  pub sent_bytes : List ℕ
+  pub between : Hub
+  pub reads : Consumes unread left received
+  pub receives : Receives id received old between
+  pub writes : Appends held holds sent_bytes
+  pub sends : SendsBytes id sent_bytes between new

@@ -2,8 +2,9 @@
 //! another is `serving`'s.
 //!
 //! Promises: what leaves a connection's reader comes on that connection, in order; what its writer gets is taken of that
-//! connection, so it is the first of what was out on it, also where the writer fails; all else that happens to the hub is
-//! a run of its events. Which streams the system reports, and when, has no contract.
+//! connection, so it is the first of what was out on it, also where the writer fails; in a turn nothing else happens. All else
+//! that happens to the hub is a run of its events, none of which brings bytes. Which streams the system reports, and when,
+//! has no contract.
 //! Stands on `httpedge` for what the events lead to, on `observing` for who is told them, on `verbs` for the machine, on
 //! `mio` for readiness.
 #![tactic(auto)]

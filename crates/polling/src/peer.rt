@@ -1,19 +1,20 @@
 //! One connection: what its peer keeps the server waiting for, and its turns. All connections stand in `peers`.
 
-ghost use Rattle.std.specs.Prelude.{◌≡◌, [], false};
+ghost use Rattle.std.specs.Prelude.{◌≡◌, [], List, ℕ, false};
+ghost use Rattle.std.specs.Io.KnownBytes.{Appends};
 ghost use Rattle.httpedge.specs.Connections.{out_on, waiting_on};
 ghost use Rattle.httpedge.specs.HubViews.{HubRepresents};
 ghost use Rattle.httpedge.specs.Steps.{State};
-ghost use Rattle.polling.specs.Happens.{ReachesOn};
+ghost use Rattle.polling.specs.Happens.{ReachesUnaskedOn, SendsBytes, Talks};
 ghost use Rattle.polling.specs.ServerViews.{lingers};
 
 use crate::reading::{Readout, hand_over};
 use crate::stream::Stream;
 use crate::writing::{Written, write_out};
-use httpedge::{Event, Hub, LINGER};
-use observing::{Observer, hand};
+use httpedge::{Effect, Event, Hub, HubFault, LINGER};
+use observing::{Observer, step};
 use std::alloc::Global;
-use std::io::{Read, Write};
+use std::io::{self, ErrorKind, Read, Write};
 use std::time::{Duration, Instant};
 
 /// What a connection waits for after its turn.
@@ -27,6 +28,23 @@ pub enum Next {
     Again,
     /// It is over.
     Over,
+    /// It is over: memory, or the system, failed its stream.
+    Failed(ErrorKind),
+}
+
+impl Next {
+    /// Whether the connection is over.
+    pub(crate) fn is_over(self) -> bool {
+        matches!(self, Next::Over | Next::Failed(_))
+    }
+
+    /// What failed its stream, if something did.
+    pub(crate) fn failure(self) -> Option<ErrorKind> {
+        match self {
+            Next::Failed(why) => Some(why),
+            _ => None,
+        }
+    }
 }
 
 /// How many bytes the lines of a turn may have until later turns send fewer: 256 KiB.
@@ -35,42 +53,52 @@ const TURN_BYTES: u64 = 262144;
 /// How many lines the first turn of a watch sends at most, and one after a turn that sent none.
 const FIRST_LINES: u64 = 8;
 
-/// How many line feeds a line of a watch has: behind its chunk's size, its own, and behind its chunk.
-const FEEDS: u64 = 3;
-
-/// How many lines of a watch these bytes have.
-fn lines_in(out: &[u8]) -> u64 {
-    let mut feeds = 0u64;
-    for byte in out {
-        if *byte == b'\n' {
-            feeds = feeds.saturating_add(1);
-        }
+/// How many lines and bytes a pump wrote.
+fn written_by(done: &Result<Effect, HubFault>) -> (u64, u64) {
+    let Ok(effect) = done else {
+        return (0, 0);
+    };
+    match effect.changes().first() {
+        Some(entry) => (entry.1.lines as u64, entry.1.bytes as u64),
+        None => (0, 0),
     }
-    feeds / FEEDS
 }
 
-/// How many lines a watch may send in its next turn, after one that might send so many and made these bytes: as many as make
-/// a turn's bytes where lines are as large as these; twice as many at most, and one at least.
-fn next_lines(lines: u64, out: &[u8]) -> u64 {
-    let made = out.len() as u64;
-    if made == 0 {
+/// How many lines a watch may send in its next turn, after one that sent so many of so many bytes: as many as make a turn's bytes
+/// where lines are as large as these; as many as in a first turn at most, or twice as many as in this one, and one at least.
+fn next_lines(lines: u64, bytes: u64) -> u64 {
+    if lines == 0 || bytes == 0 {
         return FIRST_LINES;
     }
-    let sent_lines = if lines > FIRST_LINES {
-        lines_in(out)
-    } else {
-        lines
-    };
-    let fitting = sent_lines.saturating_mul(TURN_BYTES) / made;
-    fitting.min(sent_lines.saturating_mul(2)).max(1)
+    let fitting = lines.saturating_mul(TURN_BYTES) / bytes;
+    let most = lines.saturating_mul(2).max(FIRST_LINES);
+    fitting.min(most).max(1)
 }
 
-/// A connection whose peer may have sent more has a turn again.
-fn again_if_more(readout: Readout, next: Next) -> Next {
-    if readout == Readout::More && next != Next::Over {
-        return Next::Again;
+/// The time now if that is asked for, or else an earlier one.
+fn later_if(is_later: bool, earlier: Instant, now: Instant) -> Instant {
+    if is_later { now } else { earlier }
+}
+
+/// Whether a peer that was read so sends no more.
+fn is_closed(read: &io::Result<Readout>) -> bool {
+    match read {
+        Ok(readout) => *readout == Readout::Closed,
+        Err(_) => false,
     }
-    next
+}
+
+/// What a connection waits for whose stream was read so, where writing leads to `next`. One whose peer may have sent more has a turn
+/// again; one that can't be read is over.
+fn after_reading(read: &io::Result<Readout>, next: Next) -> Next {
+    match read {
+        Ok(Readout::More) if next != Next::Over => Next::Again,
+        Ok(_) => next,
+        Err(error) => match error.kind() {
+            ErrorKind::OutOfMemory => Next::Failed(ErrorKind::OutOfMemory),
+            _ => Next::Over,
+        },
+    }
 }
 
 /// The stream of a connection, and how its peer stands to the server.
@@ -122,11 +150,12 @@ impl<S: Read + Write + Stream + Drop> Peer<S> {
         self.made
     }
 
-    /// Notes what its turn made, which might send so many lines.
-    fn note_made(&mut self, lines: u64, out: &[u8]) {
-        self.made = out.len() as u64;
-        self.is_behind = !out.is_empty();
-        self.lines = next_lines(lines, out);
+    /// Notes what a pump wrote.
+    fn note_made(&mut self, done: &Result<Effect, HubFault>) {
+        let (lines, bytes) = written_by(done);
+        self.made = bytes;
+        self.is_behind = bytes > 0;
+        self.lines = next_lines(lines, bytes);
     }
 
     /// Whether the server waits for the peer: for the rest of its request, to take what waits for it, or to close.
@@ -152,7 +181,7 @@ impl<S: Read + Write + Stream + Drop> Peer<S> {
     }
 
     /// The turn of a connection whose stream may be ready: what its peer sent is handed to the hub, and what is out on it
-    /// is written.
+    /// is written, also where its peer can't be read any more.
     pub fn look<O: Observer>(
         &mut self,
         alloc: Global,
@@ -161,16 +190,13 @@ impl<S: Read + Write + Stream + Drop> Peer<S> {
         id: u64,
         now: Instant,
     ) -> Next
-        ensures { ReachesOn id hub.old hub.new }
+        ensures { (read : S) × (written : S) × Talks id (S.remaining self.old.stream) (S.remaining read) (S.contents read) (S.contents written) hub.old hub.new }
     {
-        if hub.wants(id) {
-            self.since = now;
-        }
-        let Ok(readout) = hand_over(alloc, hub, observer, id, &mut self.stream) else {
-            return Next::Over;
-        };
-        self.is_read_out = readout == Readout::Closed;
-        again_if_more(readout, self.flush(hub, id, now))
+        self.since = later_if(hub.wants(id), self.since, now);
+        let read = hand_over(alloc, hub, observer, id, &mut self.stream);
+        self.is_read_out = is_closed(&read);
+        let next = self.flush(hub, id, now);
+        after_reading(&read, next)
     }
 
     /// The turn of a watch: where nothing waits it may write so many lines at most, and fewer where those before were large.
@@ -182,7 +208,7 @@ impl<S: Read + Write + Stream + Drop> Peer<S> {
         lines: u64,
         now: Instant,
     ) -> Next
-        ensures { ReachesOn id hub.old hub.new }
+        ensures { ReachesUnaskedOn id hub.old hub.new }
     {
         self.is_behind = true;
         self.made = 0;
@@ -193,14 +219,14 @@ impl<S: Read + Write + Stream + Drop> Peer<S> {
             return self.flush(hub, id, now);
         }
         let lines = lines.min(self.lines);
-        hand(hub, observer, Event::Pump(id, lines));
-        self.note_made(lines, hub.out(id));
+        let done = step(hub, observer, &Event::Pump(id, lines));
+        self.note_made(&done);
         self.flush(hub, id, now)
     }
 
     /// Writes what is out.
     fn flush(&mut self, hub: &mut Hub, id: u64, now: Instant) -> Next
-        ensures { ReachesOn id hub.old hub.new }
+        ensures { (written : S) × (sent_bytes : List ℕ) × Appends (S.contents self.old.stream) (S.contents written) sent_bytes × SendsBytes id sent_bytes hub.old hub.new }
     {
         let waiting = hub.out(id).len();
         let written = write_out(hub, id, &mut self.stream);

@@ -4,14 +4,14 @@
 ghost use Rattle.std.specs.Prelude.{◌≡◌};
 ghost use Rattle.serde_json.specs.View.{view};
 ghost use Rattle.httpedge.specs.Steps.{retypes};
-ghost use Rattle.polling.specs.Happens.{Answers, Reaches, ReachesOn};
+ghost use Rattle.polling.specs.Happens.{Answers, Reaches, ReachesUnasked, ReachesUnaskedOn};
 
 use crate::options::Options;
 use crate::peer::{Next, Peer};
-use httpedge::{Event, Hub, HubFault};
+use httpedge::{Effect, Event, Hub, HubFault};
 use mio::net::{TcpListener, TcpStream};
 use mio::{Events, Interest, Poll, Token};
-use observing::{Observer, compact, hand, on};
+use observing::{Observer, compact, hand, step};
 use serde_json::Value;
 use std::alloc::Global;
 use std::collections::BTreeMap;
@@ -59,13 +59,21 @@ impl Entry {
     }
 }
 
-/// A connection is over: unless all of its reply was written, its peer has gone.
-fn part<O: Observer>(hub: &mut Hub, observer: &mut O, id: u64)
-    ensures { ReachesOn id hub.old hub.new }
+/// Tells what failed the stream of a connection, if something did.
+fn report_loss<O: Observer>(observer: &mut O, id: u64, why: Option<ErrorKind>) {
+    if let Some(why) = why {
+        observer.loses(id, why);
+    }
+}
+
+/// A connection is over: unless all of its reply was written, its peer has gone, or something failed its stream.
+fn part<O: Observer>(hub: &mut Hub, observer: &mut O, id: u64, why: Option<ErrorKind>)
+    ensures { ReachesUnaskedOn id hub.old hub.new }
 {
     if hub.ended(id) && hub.out(id).is_empty() {
         return;
     }
+    report_loss(observer, id, why);
     hand(hub, observer, Event::Gone(id));
 }
 
@@ -223,7 +231,7 @@ impl Peers {
     /// unless more is left for it than one pump sends, or its bytes still wait for its peer. Each second ends the
     /// connections whose peers are silent.
     pub(crate) fn settle<O: Observer>(&mut self, observer: &mut O, now: Instant)
-        ensures { Reaches self.old.hub self.new.hub }
+        ensures { ReachesUnasked self.old.hub self.new.hub }
     {
         let is_second = self.tick(observer, now);
         let is_risen = self.compact(observer, is_second);
@@ -240,18 +248,18 @@ impl Peers {
         observer: &mut O,
         file: Value,
         now: Instant,
-    ) -> Result<(), HubFault>
+    ) -> Result<Effect, HubFault>
         ensures answers { Answers (retypes (view file)) result self.old.hub self.new.hub }
-        ensures reaches { Reaches self.old.hub self.new.hub }
+        ensures reaches { ReachesUnasked self.old.hub self.new.hub }
     {
-        let done = on(&mut self.hub, observer, &Event::Retype(file));
+        let done = step(&mut self.hub, observer, &Event::Retype(file));
         self.settle(observer, now);
         done
     }
 
     /// The hub's tick, each second; whether it is due.
     fn tick<O: Observer>(&mut self, observer: &mut O, now: Instant) -> bool
-        ensures { Reaches self.old.hub self.new.hub }
+        ensures { ReachesUnasked self.old.hub self.new.hub }
     {
         let is_early = now.duration_since(self.ticked) < Duration::from_millis(TICK);
         if is_early {
@@ -267,7 +275,7 @@ impl Peers {
     /// Forgets what isn't kept, where that is worth a statement: each second, or once as much again is kept. Whether
     /// something was written since it was last asked.
     fn compact<O: Observer>(&mut self, observer: &mut O, is_second: bool) -> bool
-        ensures { Reaches self.old.hub self.new.hub }
+        ensures { ReachesUnasked self.old.hub self.new.hub }
     {
         let keep = self.options.keep;
         let (revision, compacted) = self.hub.marks().unwrap_or((self.revision, 0));
@@ -307,7 +315,8 @@ impl Peers {
             is_watch: false,
         };
         if self.entries.insert(id, entry).is_err() {
-            part(&mut self.hub, observer, id);
+            let why = Some(ErrorKind::OutOfMemory);
+            part(&mut self.hub, observer, id, why);
             self.count_closed();
             return;
         }
@@ -325,24 +334,24 @@ impl Peers {
             .look(self.alloc, &mut self.hub, observer, id, now);
         let begins = !entry.is_watch && !self.hub.wants(id) && !self.hub.ended(id);
         self.has_lines |= entry.note(begins);
-        if !self.list_watch(id, begins) {
-            self.close(observer, id);
-            return;
-        }
+        let next = self.list_watch(id, begins, next);
         self.follow(observer, id, next);
     }
 
-    /// Whether a watch that begins is among the watches.
-    fn list_watch(&mut self, id: u64, begins: bool) -> bool
+    /// Puts a watch that begins among the watches, and answers what the connection waits for.
+    fn list_watch(&mut self, id: u64, begins: bool, next: Next) -> Next
         ensures { self.new.hub ≡ self.old.hub }
     {
-        !begins || self.watches.push(id).is_ok()
+        if begins && self.watches.push(id).is_err() {
+            return Next::Failed(ErrorKind::OutOfMemory);
+        }
+        next
     }
 
     /// Each watch has its turn; unless all do, those alone that have more lines. These have none once such turns have made so
     /// many bytes; the next round begins with the first of them that had none.
     fn pump_watches<O: Observer>(&mut self, observer: &mut O, all: bool, now: Instant)
-        ensures { Reaches self.old.hub self.new.hub }
+        ensures { ReachesUnasked self.old.hub self.new.hub }
     {
         if !all && !self.has_lines {
             return;
@@ -366,7 +375,7 @@ impl Peers {
         all: bool,
         now: Instant,
     )
-        ensures { Reaches self.old.hub self.new.hub }
+        ensures { ReachesUnasked self.old.hub self.new.hub }
     {
         let end = end.min(self.watches.len());
         for at in first..end {
@@ -375,7 +384,7 @@ impl Peers {
     }
 
     fn pump_at<O: Observer>(&mut self, observer: &mut O, at: usize, all: bool, now: Instant)
-        ensures { Reaches self.old.hub self.new.hub }
+        ensures { ReachesUnasked self.old.hub self.new.hub }
     {
         let Some(id) = self.watches.get(at) else {
             return;
@@ -407,7 +416,7 @@ impl Peers {
 
     /// The turn of a watch, whose bytes count where it had more lines.
     fn pump_watch<O: Observer>(&mut self, observer: &mut O, id: u64, goes_on: bool, now: Instant)
-        ensures { Reaches self.old.hub self.new.hub }
+        ensures { ReachesUnasked self.old.hub self.new.hub }
     {
         let Some(entry) = self.entries.get_mut(&id) else {
             return;
@@ -422,37 +431,47 @@ impl Peers {
 
     /// Does what a connection waits for after its turn.
     fn follow<O: Observer>(&mut self, observer: &mut O, id: u64, next: Next)
-        ensures { Reaches self.old.hub self.new.hub }
+        ensures { ReachesUnasked self.old.hub self.new.hub }
     {
-        let goes_on = self.await_next(id, next);
-        if !goes_on {
-            self.close(observer, id);
+        let next = self.await_next(id, next);
+        if next.is_over() {
+            self.close(observer, id, next.failure());
         }
     }
 
-    /// Whether the connection goes on.
-    fn await_next(&mut self, id: u64, next: Next) -> bool
+    /// Has a connection wait for what comes next, and answers what it waits for.
+    fn await_next(&mut self, id: u64, next: Next) -> Next
+        ensures { self.new.hub ≡ self.old.hub }
+    {
+        match self.arrange(id, next) {
+            Ok(()) => next,
+            Err(error) => Next::Failed(error.kind()),
+        }
+    }
+
+    /// Has the system report a connection, or gives it a turn again, by what comes next.
+    fn arrange(&mut self, id: u64, next: Next) -> io::Result<()>
         ensures { self.new.hub ≡ self.old.hub }
     {
         match next {
             Next::Reads => self.report(id, Reported::Reads),
             Next::Writes => self.report(id, Reported::ReadsAndWrites),
-            Next::Again => self.again.push(id).is_ok(),
-            Next::Over => false,
+            Next::Again => Ok(self.again.push(id)?),
+            Next::Over | Next::Failed(_) => Ok(()),
         }
     }
 
     /// Has the system report this of the connection from now on, and at once what it is ready for by now. What it reports
     /// already stays.
-    fn report(&mut self, id: u64, wanted: Reported) -> bool
+    fn report(&mut self, id: u64, wanted: Reported) -> io::Result<()>
         ensures { self.new.hub ≡ self.old.hub }
     {
         let Some(entry) = self.entries.get_mut(&id) else {
-            return false;
+            return Ok(());
         };
         let was = entry.reported;
         if was == wanted || was == Reported::ReadsAndWrites {
-            return true;
+            return Ok(());
         }
         entry.reported = wanted;
         let interest = if wanted == Reported::Reads {
@@ -463,12 +482,11 @@ impl Peers {
         let registry = self.poll.registry();
         let token = Token(id as usize);
         let stream = &mut entry.peer.stream;
-        let done = if was == Reported::Nothing {
+        if was == Reported::Nothing {
             registry.register(stream, token, interest)
         } else {
             registry.reregister(stream, token, interest)
-        };
-        done.is_ok()
+        }
     }
 
     /// The connections whose peers are silent; out of memory, only some of them.
@@ -485,22 +503,22 @@ impl Peers {
     }
 
     fn drop_silent<O: Observer>(&mut self, observer: &mut O, now: Instant)
-        ensures { Reaches self.old.hub self.new.hub }
+        ensures { ReachesUnasked self.old.hub self.new.hub }
     {
         let silent = self.silent(now);
         for id in &silent {
-            self.close(observer, *id);
+            self.close(observer, *id, None);
         }
     }
 
     /// A connection is over: its stream is closed, by which the system reports it no more.
-    fn close<O: Observer>(&mut self, observer: &mut O, id: u64)
-        ensures { Reaches self.old.hub self.new.hub }
+    fn close<O: Observer>(&mut self, observer: &mut O, id: u64, why: Option<ErrorKind>)
+        ensures { ReachesUnasked self.old.hub self.new.hub }
     {
         if self.entries.remove(&id).is_none() {
             return;
         }
-        part(&mut self.hub, observer, id);
+        part(&mut self.hub, observer, id, why);
         self.count_closed();
         self.accept_anew();
     }

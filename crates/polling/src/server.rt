@@ -7,12 +7,12 @@ ghost use Rattle.verbs.specs.Views.{ApiRepresents};
 ghost use Rattle.httpedge.specs.HubViews.{HubRepresents};
 ghost use Rattle.httpedge.specs.Steps.{State, retypes, start};
 ghost use Rattle.serde_json.specs.View.{view};
-ghost use Rattle.polling.specs.Happens.{Answers, Reaches};
+ghost use Rattle.polling.specs.Happens.{Answers, Reaches, ReachesUnasked};
 ghost use Rattle.polling.specs.ServerViews.{hub_of, over_of};
 
 use crate::options::Options;
 use crate::peers::{LISTENER, Peers};
-use httpedge::{Hub, HubFault};
+use httpedge::{Effect, Hub, HubFault};
 use mio::net::TcpListener;
 use mio::{Events, Interest, Poll};
 use observing::Observer;
@@ -85,15 +85,16 @@ impl Server {
         Ok(())
     }
 
-    /// Serves the types of a types file from here on, or tells why not. The watches get what that changed.
+    /// Serves the types of a types file from here on, or tells why not. The watches get what that changed. No bytes come on a
+    /// connection.
     pub fn retype<O: Observer>(
         &mut self,
         observer: &mut O,
         file: Value,
         now: Instant,
-    ) -> Result<(), HubFault>
+    ) -> Result<Effect, HubFault>
         ensures answers { Answers (retypes (view file)) result (hub_of self.old) (hub_of self.new) }
-        ensures reaches { Reaches (hub_of self.old) (hub_of self.new) }
+        ensures reaches { ReachesUnasked (hub_of self.old) (hub_of self.new) }
     {
         self.peers.retype(observer, file, now)
     }

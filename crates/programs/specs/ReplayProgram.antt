@@ -40,6 +40,10 @@ status_of (fault.Port p e) = 6
 status_of fault.Memory = 5
 status_of fault.Store = 5
 
+-- the exit status of a program that ends by a fault: the fault's, or 1 where the help or the version that was asked for couldn't be printed
+abbrev pub EndsWith : RunFault → ℕ → Type 0
+EndsWith f status = (status ≡ status_of f) ⊎ ((status_of f ≡ 0) × (status ≡ 1))
+
 abbrev pub types_refusal_number : Refusal → ℕ
 types_refusal_number unknown_keyword = 1
 types_refusal_number unknown_type = 2

@@ -12,6 +12,7 @@ mod commands;
 mod numbers;
 mod resource;
 mod run_fault;
+mod standard_streams;
 mod types_file;
 mod types_refusal;
 
@@ -23,5 +24,6 @@ pub use commands::{
 pub use numbers::{NumberOption, count_of, number, number_option, port_of};
 pub use resource::{Resource, resource_in};
 pub use run_fault::{RunFault, WRONG_USAGE, end_with, unread_path};
+pub use standard_streams::hold_standard_streams;
 pub use types_file::{discovered_if, read_types, types_in, types_text};
 pub use types_refusal::{RefusedTypes, TypesRefusal};

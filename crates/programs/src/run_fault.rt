@@ -1,7 +1,7 @@
 //! Why a program's run ends before it is done, the exit status that tells it, and where it is printed.
 ghost use Rattle.std.specs.Prelude.{◌≡◌, ◌⊎◌};
 ghost use Rattle.std.specs.Process.{exit_status};
-ghost use Rattle.programs.specs.ReplayProgram.{status_of};
+ghost use Rattle.programs.specs.ReplayProgram.{EndsWith, status_of};
 ghost use Rattle.programs.specs.declared.run_fault.RunFault.TheVariants.{Memory, Port};
 
 use crate::numbers::NumberOption;
@@ -11,6 +11,9 @@ use std::alloc::{AllocError, Global};
 use std::io;
 use std::process::ExitCode;
 use thiserror::Error;
+
+/// The exit status of an output that can't be written.
+const NO_OUTPUT: u8 = 1;
 
 /// The exit status of wrong usage.
 pub const WRONG_USAGE: u8 = 2;
@@ -58,7 +61,7 @@ impl RunFault {
     {
         match self {
             RunFault::Arguments(error) if !error.use_stderr() => 0,
-            RunFault::Output(_) => 1,
+            RunFault::Output(_) => NO_OUTPUT,
             RunFault::Arguments(_) => WRONG_USAGE,
             RunFault::NotText | RunFault::Number(_) => WRONG_USAGE,
             RunFault::TypesFile(..) | RunFault::TypesText(..) | RunFault::Types(..) => 3,
@@ -113,15 +116,30 @@ pub fn unread_path(alloc: Global, path: &str, error: &io::Error) -> Result<Strin
     Ok(String::from_str(alloc, path)?)
 }
 
-/// Prints a fault, and answers the exit status that tells it. Help and the version go to the standard output, all else
-/// to the standard error.
-pub fn end_with<R: Print + Eprint>(rt: &R, fault: &RunFault) -> ExitCode
-    ensures { exit_status result ≡ status_of fault.now }
-{
-    // Where nothing can be printed, the status still tells the fault.
-    let _ = match fault {
+/// Prints a fault: help and the version on the standard output, all else on the standard error.
+fn print<R: Print + Eprint>(rt: &R, fault: &RunFault) -> io::Result<()> {
+    match fault {
         RunFault::Arguments(error) => error.print(rt),
         _ => rt.eprintln(fault),
-    };
-    ExitCode::from(fault.status())
+    }
+}
+
+/// Prints a fault, and answers the exit status that tells it. Help and the version go to the standard output, all else
+/// to the standard error. Help or a version that can't be printed is a fault of the output.
+pub fn end_with<R: Print + Eprint>(rt: &R, fault: &RunFault) -> ExitCode
+    ensures { EndsWith fault.now (exit_status result) }
+{
+    let printed = print(rt, fault);
+    let status = fault.status();
+    if status > 0 {
+        // Where nothing can be printed, the status still tells the fault.
+        return ExitCode::from(status);
+    }
+    match printed {
+        Ok(()) => ExitCode::from(status),
+        Err(error) => {
+            let _ = rt.eprintln(&RunFault::Output(error));
+            ExitCode::from(NO_OUTPUT)
+        }
+    }
 }

@@ -1,5 +1,5 @@
 -- Objects that are created from the lines of a text: each by a POST of the value that its line is of.
-use Rattle.std.specs.Prelude.{◌≡◌, ◌≢◌, ◌+◌, ◌==◌, ℕ, Bool, not, List, [], ◌∷◌, ◌++◌, length, Option, Some, None, Ok, codes, option_and_then}
+use Rattle.std.specs.Prelude.{◌≡◌, ◌≢◌, ◌≤◌, ◌<◌, ◌+◌, ◌==◌, ℕ, Bool, not, List, [], ◌∷◌, ◌++◌, length, Option, Some, None, Ok, codes, option_and_then}
 use Rattle.std.specs.List.{AllByRecursion, AllZip, filter, slice_split}
 use Rattle.serde_json.specs.Data.{Data}
 use Rattle.serde_json.specs.Find.{as_object}
@@ -11,6 +11,7 @@ use Rattle.api_request.specs.Admit.{admitted}
 use Rattle.api_request.specs.Calls.{Call}
 use Rattle.api_request.specs.declared.admitting.AdmitFault.{AdmitFault}
 use Rattle.api_request.specs.declared.admitting.AdmitFault.TheVariants as admit_fault
+use Rattle.requests.specs.Bodies.{max_body}
 use Rattle.verbs.specs.declared.fault.Fault.TheVariants.{Memory}
 use Rattle.verbs.specs.Views.{ApiRepresents}
 use Rattle.verbs.specs.Step.{step, steps}
@@ -37,8 +38,9 @@ pub record IsPathFor (value : Data) (path : List ℕ) : Type 0 where
   pub names_namespace : namespace_in value ≡ Some namespace
   pub is : path ≡ codes "/apis/" ++ (version ++ (codes "/namespaces/" ++ (namespace ++ (codes "/" ++ plural))))
 
--- the call of a POST, without parameters, of the value that the line is of
+-- the call of a POST, without parameters, of the value that the line is of, which is no longer than a body may be
 pub record IsCreation (types : List ServedShape) (line : List ℕ) (call : Call) : Type 0 where
+  pub fits : length line ≤ max_body
   pub value : Data
   pub reads : read_json line ≡ Some value
   pub path : List ℕ
@@ -54,8 +56,10 @@ pub record Creates (types : List ServedShape) (m : History) (line : List ℕ) (a
   pub created : (step types m call).0.status ≡ 201
   pub stands : ApiRepresents api types (step types m call).1
 
--- why the line's object isn't created: it is no JSON, or its POST is answered otherwise; no more is said of other faults
+-- why the line's object isn't created: it is longer than a body may be, it is no JSON, or its POST is answered otherwise; no more is said of
+-- other faults
 abbrev pub IsRefused : List ServedShape → History → List ℕ → ObjectFault → Type 0
+IsRefused types m line fault.TooLarge = max_body < length line
 IsRefused types m line (fault.NotJson e) = read_json line ≡ None
 IsRefused types m line (fault.Refused status message) = (call : Call) × IsCreation types line call × ((step types m call).0.status ≡ status) × (status ≢ 201)
 IsRefused types m line why = Unit {0}

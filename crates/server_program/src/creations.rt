@@ -14,6 +14,7 @@ use api_request::{Body, CREATED, Call};
 use api_types::Types;
 use json_values::{members_at, read_text, text_at};
 use programs::unread_path;
+use requests::MAX_BODY;
 use serde_json::Value;
 use std::alloc::{AllocError, Global};
 use std::fs;
@@ -70,6 +71,9 @@ fn creation(alloc: Global, api: &Api, line: &str) -> Result<Call, ObjectFault>
     ensures ok { IfOk result (λ call. IsCreation (types_of api.now) line.now (call_of call)) }
     ensures err { (types : List ServedShape) (m : History) → IfErr result (IsRefused types m line.now) }
 {
+    if line.len() > MAX_BODY {
+        return Err(ObjectFault::TooLarge);
+    }
     let body = Body::read(alloc, line.as_bytes())?;
     let path = path_of(alloc, api.types(), body.value())?;
     let target = api.admit("POST", path.as_str(), None)?;

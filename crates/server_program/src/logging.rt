@@ -1,395 +1,308 @@
-//! What is told of requests and watches, a line each. What happened stands in `recording`, who tells it in `witness`.
+//! The log: what is told of requests, of watches and of what fails. How a line reads stands in `log_line`, who tells it in
+//! `witness`.
 
-use crate::recording::digit;
-use httpedge::{Event, Hub, HubFault};
-use std::alloc::{AllocError, Global};
+ghost use Rattle.std.specs.Prelude.{◌≡◌};
+ghost use Rattle.server_program.specs.declared.log_line.Told.TheVariants as told;
+
+use crate::log_line::{Line, LogCall, Moment, Sink, Told};
+use httpedge::{Change, Effect, Event, Hub, HubFailure, HubFault};
+use requests::Request;
+use std::alloc::Global;
 use std::collections::BTreeMap;
+use std::io::ErrorKind;
 use std::time::{Duration, Instant};
 
-/// How many bytes of a request's first line are kept.
-const FIRST_LINE: usize = 16384;
+/// What is told of a reply that took so long.
+fn told_of_reply(change: &Change, took: Duration) -> Told
+    ensures { result ≡ told.Reply change.now.status change.now.bytes took }
+{
+    Told::Reply(change.status, change.bytes as u64, took)
+}
 
-/// How many line feeds a line of a watch has in its chunk: before it, its own and after it.
-const FEEDS: usize = 3;
-
-/// What a connection asked, as far as it is known.
+/// A watch: what it asked, and what it got.
 #[derive(Drop)]
-struct Asked {
-    /// The first bytes that came, up to a line feed.
-    line: Vec<u8>,
-    is_whole: bool,
-    /// It watches.
-    is_watch: bool,
-    /// How many bytes waited before the event.
-    waiting: usize,
-    /// How many lines the watch got, and how many bytes.
+struct Watch {
+    method: String,
+    target: String,
     lines: u64,
     bytes: u64,
-    /// Since when it is open.
-    since: Instant,
 }
 
-impl Asked {
-    fn new(alloc: Global, since: Instant) -> Asked {
-        Asked {
-            line: Vec::new(alloc),
-            is_whole: false,
-            is_watch: false,
-            waiting: 0,
+/// A text, or the empty one where there is no memory.
+fn text_or_none(alloc: Global, text: &str) -> String {
+    match String::from_str(alloc, text) {
+        Ok(text) => text,
+        Err(_) => String::new(alloc),
+    }
+}
+
+impl Watch {
+    fn new(alloc: Global, call: LogCall<'_>) -> Watch {
+        Watch {
+            method: text_or_none(alloc, call.method),
+            target: text_or_none(alloc, call.target),
             lines: 0,
             bytes: 0,
-            since,
         }
     }
 
-    /// Keeps of a piece what belongs to the first line.
-    fn keep(&mut self, piece: &[u8]) -> Result<(), AllocError> {
-        for byte in piece {
-            if self.is_whole || self.line.len() >= FIRST_LINE {
-                break;
-            }
-            if *byte == b'\n' {
-                self.is_whole = true;
-            } else {
-                self.line.push(*byte)?;
-            }
-        }
-        Ok(())
+    /// Counts what an event wrote.
+    fn count(&mut self, change: &Change) {
+        self.lines = self.lines.saturating_add(change.lines as u64);
+        self.bytes = self.bytes.saturating_add(change.bytes as u64);
     }
 
-    /// Counts what its watch got of an event.
-    fn count(&mut self, made: &[u8]) {
-        let feeds = made.iter().filter(|byte| **byte == b'\n').count();
-        self.lines = self.lines.saturating_add((feeds / FEEDS) as u64);
-        self.bytes = self.bytes.saturating_add(made.len() as u64);
+    /// What is told once it is over, of a connection that was open for so long.
+    fn told_at_end(&self, lasted: Duration) -> Told
+        ensures { result ≡ told.Ended self.now.lines self.now.bytes lasted }
+    {
+        Told::Ended(self.lines, self.bytes, lasted)
     }
-}
 
-/// Adds a byte as printable ASCII.
-fn push_shown(text: &mut String, byte: u8) -> Result<(), AllocError> {
-    if byte.is_ascii_graphic() {
-        return text.push(byte as char);
-    }
-    text.push_str("\\x")?;
-    text.push(digit(byte / 16) as char)?;
-    text.push(digit(byte) as char)
-}
-
-/// Adds the word of a line before which so many blanks stand; `-` where there is none.
-fn push_word(text: &mut String, line: &[u8], at: usize) -> Result<(), AllocError> {
-    let mut blanks = 0usize;
-    let before = text.len();
-    for byte in line {
-        if *byte == b' ' {
-            blanks = blanks.saturating_add(1);
-        } else if blanks == at && *byte != b'\r' {
-            push_shown(text, *byte)?;
+    fn call(&self) -> LogCall<'_> {
+        LogCall {
+            method: self.method.as_str(),
+            target: self.target.as_str(),
         }
     }
-    if text.len() == before {
-        text.push('-')?;
+}
+
+/// A connection that is open.
+#[derive(Drop)]
+struct Opened {
+    since: Instant,
+    /// None while what it asks isn't decided.
+    watch: Option<Watch>,
+}
+
+impl Opened {
+    fn call(&self) -> LogCall<'_> {
+        match &self.watch {
+            Some(watch) => watch.call(),
+            None => LogCall::none(),
+        }
     }
-    Ok(())
-}
 
-/// The status of a reply, as its bytes tell it; `-` where there is none.
-fn status_of(out: &[u8]) -> &str {
-    match out.get(9..12) {
-        Some(digits) => str::from_utf8(digits).unwrap_or("-"),
-        None => "-",
+    /// Counts what an event wrote on a watch.
+    fn count(&mut self, change: &Change) {
+        if let Some(watch) = &mut self.watch {
+            watch.count(change);
+        }
     }
-}
 
-/// When something happened.
-#[derive(Clone, Copy, Debug)]
-pub struct Moment {
-    pub now: Instant,
-    pub since_1970: Duration,
-}
-
-impl Moment {
-    /// The microseconds since an earlier time.
-    fn micros_since(&self, earlier: Instant) -> u128 {
-        self.now.duration_since(earlier).as_micros()
-    }
-}
-
-/// Adds a line: when it was, which connection, method and target, and what is told of that.
-fn push_line(
-    alloc: Global,
-    text: &mut String,
-    moment: Moment,
-    asked: (u64, &[u8]),
-    reported: &str,
-) -> Result<(), AllocError> {
-    let (id, line) = asked;
-    let seconds = moment.since_1970.as_secs();
-    let millis = moment.since_1970.subsec_millis();
-    let prefix = format!(in alloc; "{seconds}.{millis:03} {id} ")?;
-    text.push_str(prefix.as_str())?;
-    push_word(text, line, 0)?;
-    text.push(' ')?;
-    push_word(text, line, 1)?;
-    text.push(' ')?;
-    text.push_str(reported)?;
-    text.push('\n')
-}
-
-/// What failed, where memory or the store did.
-fn failure_of(done: &Result<(), HubFault>) -> Option<HubFault> {
-    match done {
-        Err(HubFault::Memory) => Some(HubFault::Memory),
-        Err(HubFault::Store) => Some(HubFault::Store),
-        _ => None,
+    /// What is told once its peer has gone, or it has ended: what a watch got, or that there is no reply.
+    fn told_at_end(&self, began: Instant, moment: Moment) -> Told {
+        match &self.watch {
+            Some(watch) => watch.told_at_end(moment.since(self.since)),
+            None => Told::Reply(None, 0, moment.since(began)),
+        }
     }
 }
 
-/// The requests that aren't answered, and the watches.
+/// What a request asks by its first line, if that can be read.
+fn call_in<'a>(request: Option<&'a Request>) -> LogCall<'a> {
+    let Some(request) = request else {
+        return LogCall::none();
+    };
+    match request.line() {
+        Some(line) => LogCall {
+            method: line.method,
+            target: line.request_target,
+        },
+        None => LogCall::none(),
+    }
+}
+
+/// The connections that are open. Where there is no memory for one, what is told of it is left out, or says no call.
 #[derive(Drop)]
 pub struct Log {
     alloc: Global,
-    asked: BTreeMap<u64, Asked>,
+    connections: BTreeMap<u64, Opened>,
+    /// Whether more is told than what fails.
+    tells_all: bool,
     /// Since when the event is done.
     began: Instant,
 }
 
 impl Log {
-    /// Nothing was asked yet.
-    pub fn new(alloc: Global, now: Instant) -> Log {
+    /// A log in which nothing was asked yet: of all, or of failures alone.
+    pub fn new(alloc: Global, tells_all: bool, now: Instant) -> Log {
         Log {
             alloc,
-            asked: BTreeMap::new(alloc),
+            connections: BTreeMap::new(alloc),
+            tells_all,
             began: now,
         }
     }
 
-    /// The connections of which it knows; out of memory, only some of them.
-    fn ids(&self) -> Vec<u64> {
-        let mut ids = Vec::new(self.alloc);
-        for (id, _) in &self.asked {
-            if ids.push(*id).is_err() {
-                break;
-            }
-        }
-        ids
+    /// Whether more is told than what fails.
+    pub fn tells_all(&self) -> bool {
+        self.tells_all
+    }
+
+    /// Whether something may be told of an event that ended so. Why other types of a file aren't served is told in any case, of the
+    /// file.
+    pub fn tells(&self, event: &Event, done: &Result<Effect, HubFault>) -> bool {
+        let has_failed = matches!(done, Err(HubFault::Failed(_)));
+        self.tells_all || (has_failed && !matches!(event, Event::Retype(_)))
     }
 
     /// An event is the next one.
-    pub fn begin(&mut self, hub: &Hub, event: &Event, now: Instant) {
+    pub fn begin(&mut self, now: Instant) {
         self.began = now;
+    }
+
+    /// Tells what an event did, or that it failed.
+    pub fn tell<S: Sink>(
+        &mut self,
+        sink: &mut S,
+        hub: &Hub,
+        event: &Event,
+        done: &Result<Effect, HubFault>,
+        moment: Moment,
+    ) {
+        match done {
+            Ok(effect) => self.tell_effect(sink, event, effect, moment),
+            Err(HubFault::Failed(failure)) => {
+                self.tell_failure(sink, hub, event, *failure, moment);
+            }
+            Err(HubFault::Refused(_)) => {}
+        }
+    }
+
+    fn tell_effect<S: Sink>(
+        &mut self,
+        sink: &mut S,
+        event: &Event,
+        effect: &Effect,
+        moment: Moment,
+    ) {
         match event {
-            Event::Pump(id, _) => self.note(hub, *id),
-            Event::Tick(_) => {
-                for id in &self.ids() {
-                    self.note(hub, *id);
+            Event::Open(id) if effect.changes().is_empty() => self.note_open(*id, moment.now),
+            Event::Gone(id) => self.tell_end(sink, *id, moment),
+            _ => {
+                let call = call_in(effect.request());
+                for entry in effect.changes() {
+                    self.tell_change(sink, entry.0, &entry.1, call, moment);
                 }
             }
-            _ => {}
         }
     }
 
-    /// Notes how many bytes wait on a connection.
-    fn note(&mut self, hub: &Hub, id: u64) {
-        if let Some(asked) = self.asked.get_mut(&id) {
-            asked.waiting = hub.out(id).len();
-        }
+    fn note_open(&mut self, id: u64, since: Instant) {
+        let _ = self.connections.insert(id, Opened { since, watch: None });
     }
 
-    /// What is told once an event is done: lines, or the empty text.
-    pub fn end(
+    /// Tells what was done to a connection: it was answered, or its watch has ended.
+    fn tell_change<S: Sink>(
         &mut self,
+        sink: &mut S,
+        id: u64,
+        change: &Change,
+        call: LogCall<'_>,
+        moment: Moment,
+    ) {
+        if change.status.is_some() {
+            self.tell_reply(sink, id, change, call, moment);
+        } else {
+            self.count(id, change);
+            if change.has_ended {
+                self.tell_end(sink, id, moment);
+            }
+        }
+    }
+
+    /// Tells of a reply. Where that isn't the end of the connection, it watches.
+    fn tell_reply<S: Sink>(
+        &mut self,
+        sink: &mut S,
+        id: u64,
+        change: &Change,
+        call: LogCall<'_>,
+        moment: Moment,
+    ) {
+        let told = told_of_reply(change, moment.since(self.began));
+        sink.tell(&Line::new(moment.since_1970, id, call, told));
+        if change.has_ended {
+            let _ = self.connections.remove(&id);
+            return;
+        }
+        let watch = Watch::new(self.alloc, call);
+        if let Some(opened) = self.connections.get_mut(&id) {
+            opened.watch = Some(watch);
+        }
+    }
+
+    fn count(&mut self, id: u64, change: &Change) {
+        if let Some(opened) = self.connections.get_mut(&id) {
+            opened.count(change);
+        }
+    }
+
+    /// Tells that a connection is over that was open.
+    fn tell_end<S: Sink>(&mut self, sink: &mut S, id: u64, moment: Moment) {
+        if let Some(opened) = self.connections.remove(&id) {
+            let told = opened.told_at_end(self.began, moment);
+            sink.tell(&Line::new(moment.since_1970, id, opened.call(), told));
+        }
+    }
+
+    /// Tells why a connection ends without its reply, or its watch.
+    fn tell_cut<S: Sink>(&mut self, sink: &mut S, id: u64, moment: Moment, told: Told) {
+        match self.connections.remove(&id) {
+            Some(opened) => sink.tell(&Line::new(moment.since_1970, id, opened.call(), told)),
+            None => sink.tell(&Line::new(moment.since_1970, id, LogCall::none(), told)),
+        }
+    }
+
+    fn tell_failure<S: Sink>(
+        &mut self,
+        sink: &mut S,
         hub: &Hub,
         event: &Event,
-        done: &Result<(), HubFault>,
+        failure: HubFailure,
         moment: Moment,
-    ) -> Result<String, AllocError> {
-        let mut text = String::new(self.alloc);
-        match failure_of(done) {
-            Some(fault) => self.log_failure(event, fault, moment, &mut text)?,
-            None => self.log(hub, event, moment, &mut text)?,
-        }
-        Ok(text)
-    }
-
-    fn log(
-        &mut self,
-        hub: &Hub,
-        event: &Event,
-        moment: Moment,
-        text: &mut String,
-    ) -> Result<(), AllocError> {
+    ) {
+        let told = Told::Failed(failure);
         match event {
-            Event::Open(id) => self.log_opened(hub, *id, moment, text),
-            Event::In(id, piece) => self.log_asked(hub, *id, piece, moment, text),
-            Event::Gone(id) => self.log_gone(*id, moment, text),
-            Event::Pump(id, _) => self.log_lines(hub, *id, moment, text),
+            Event::Open(id) | Event::In(id, _) | Event::Gone(id) | Event::Pump(id, _) => {
+                self.tell_cut(sink, *id, moment, told);
+            }
             Event::Tick(_) => {
-                for id in &self.ids() {
-                    self.log_lines(hub, *id, moment, text)?;
-                }
-                Ok(())
+                sink.tell(&Line::new(moment.since_1970, 0, LogCall::named("tick"), told));
+                self.tell_dead(sink, hub, moment, told);
             }
-            Event::Compact(_) | Event::Retype(_) => Ok(()),
-        }
-    }
-
-    fn log_opened(
-        &mut self,
-        hub: &Hub,
-        id: u64,
-        moment: Moment,
-        text: &mut String,
-    ) -> Result<(), AllocError> {
-        if hub.ended(id) {
-            return self.log_reply(hub.out(id), (id, b""), moment, text);
-        }
-        let asked = Asked::new(self.alloc, moment.now);
-        match self.asked.insert(id, asked) {
-            Ok(_) => Ok(()),
-            Err(_) => Err(AllocError),
-        }
-    }
-
-    /// The line of a request: the reply's status, its bytes, and in how many microseconds it was made.
-    fn log_reply(
-        &self,
-        out: &[u8],
-        asked: (u64, &[u8]),
-        moment: Moment,
-        text: &mut String,
-    ) -> Result<(), AllocError> {
-        let status = status_of(out);
-        let count = out.len();
-        let micros = moment.micros_since(self.began);
-        let reported = format!(in self.alloc; "{status} {count} {micros}")?;
-        push_line(self.alloc, text, moment, asked, reported.as_str())
-    }
-
-    fn log_asked(
-        &mut self,
-        hub: &Hub,
-        id: u64,
-        piece: &[u8],
-        moment: Moment,
-        text: &mut String,
-    ) -> Result<(), AllocError> {
-        let Some(mut asked) = self.asked.remove(&id) else {
-            return Ok(());
-        };
-        if !asked.is_watch {
-            asked.keep(piece)?;
-            if !hub.wants(id) {
-                asked.is_watch = true;
-                self.log_reply(hub.out(id), (id, &asked.line), moment, text)?;
+            Event::Compact(_) => {
+                sink.tell(&Line::new(moment.since_1970, 0, LogCall::named("compaction"), told));
+            }
+            Event::Retype(_) => {
+                sink.tell(&Line::new(moment.since_1970, 0, LogCall::named("types"), told));
             }
         }
-        self.keep(hub, id, asked)
     }
 
-    /// Keeps what a connection asked until that is answered.
-    fn keep(&mut self, hub: &Hub, id: u64, asked: Asked) -> Result<(), AllocError> {
-        if hub.ended(id) {
-            return Ok(());
-        }
-        match self.asked.insert(id, asked) {
-            Ok(_) => Ok(()),
-            Err(_) => Err(AllocError),
-        }
-    }
-
-    fn log_lines(
-        &mut self,
-        hub: &Hub,
-        id: u64,
-        moment: Moment,
-        text: &mut String,
-    ) -> Result<(), AllocError> {
-        if let Some(asked) = self.asked.get_mut(&id) {
-            asked.count(hub.out(id).get(asked.waiting..).unwrap_or(b""));
-        }
-        if hub.ended(id) {
-            return self.log_gone(id, moment, text);
-        }
-        Ok(())
-    }
-
-    /// The line of a watch that is over: its lines, its bytes, and how many microseconds it was open; or of a request that has
-    /// no reply.
-    fn log_gone(&mut self, id: u64, moment: Moment, text: &mut String) -> Result<(), AllocError> {
-        let Some(asked) = self.asked.remove(&id) else {
-            return Ok(());
-        };
-        if !asked.is_watch {
-            return self.log_reply(b"", (id, &asked.line), moment, text);
-        }
-        let lines = asked.lines;
-        let bytes = asked.bytes;
-        let micros = moment.micros_since(asked.since);
-        let reported = format!(in self.alloc; "ended {lines} {bytes} {micros}")?;
-        push_line(
-            self.alloc,
-            text,
-            moment,
-            (id, &asked.line),
-            reported.as_str(),
-        )
-    }
-
-    /// The line of what failed, with what was asked.
-    fn log_failure(
-        &mut self,
-        event: &Event,
-        fault: HubFault,
-        moment: Moment,
-        text: &mut String,
-    ) -> Result<(), AllocError> {
-        let reported = format!(in self.alloc; "failed: {fault}")?;
-        match event {
-            Event::Open(id) => push_line(self.alloc, text, moment, (*id, b""), reported.as_str()),
-            Event::In(id, piece) => {
-                let mut asked = self.taken(*id, moment);
-                asked.keep(piece)?;
-                push_line(
-                    self.alloc,
-                    text,
-                    moment,
-                    (*id, &asked.line),
-                    reported.as_str(),
-                )
+    /// The watch with the lowest id that has ended.
+    fn first_dead(&self, hub: &Hub) -> Option<u64> {
+        for (id, _) in &self.connections {
+            if hub.ended(*id) {
+                return Some(*id);
             }
-            Event::Gone(id) | Event::Pump(id, _) => {
-                let asked = self.taken(*id, moment);
-                push_line(
-                    self.alloc,
-                    text,
-                    moment,
-                    (*id, &asked.line),
-                    reported.as_str(),
-                )
-            }
-            Event::Tick(_) => push_line(self.alloc, text, moment, (0, b"tick"), reported.as_str()),
-            Event::Compact(_) => push_line(
-                self.alloc,
-                text,
-                moment,
-                (0, b"compaction"),
-                reported.as_str(),
-            ),
-            Event::Retype(_) => push_line(
-                self.alloc,
-                text,
-                moment,
-                (0, b"types"),
-                reported.as_str(),
-            ),
+        }
+        None
+    }
+
+    /// Tells of the watches that a tick has ended because it failed.
+    fn tell_dead<S: Sink>(&mut self, sink: &mut S, hub: &Hub, moment: Moment, told: Told) {
+        for _ in 0..self.connections.len() {
+            let Some(id) = self.first_dead(hub) else {
+                return;
+            };
+            self.tell_cut(sink, id, moment, told);
         }
     }
 
-    /// What a connection asked, which isn't kept any more.
-    fn taken(&mut self, id: u64, moment: Moment) -> Asked {
-        match self.asked.remove(&id) {
-            Some(asked) => asked,
-            None => Asked::new(self.alloc, moment.now),
-        }
+    /// Tells what failed the stream of a connection.
+    pub fn tell_loss<S: Sink>(&mut self, sink: &mut S, id: u64, why: ErrorKind, moment: Moment) {
+        self.tell_cut(sink, id, moment, Told::Lost(why));
     }
 }

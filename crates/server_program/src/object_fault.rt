@@ -1,6 +1,7 @@
 //! Why the object of a line isn't created. How a line's object is created stands in `creations`.
 
 use api_request::AdmitFault;
+use requests::BODY_TOO_LARGE;
 use std::alloc::AllocError;
 use thiserror::Error;
 use verbs::Fault;
@@ -8,6 +9,9 @@ use verbs::Fault;
 /// Why the object of a line isn't created.
 #[derive(Debug, Drop, Error)]
 pub enum ObjectFault {
+    /// The line is longer than the body of a POST may be.
+    #[error("413 {}", BODY_TOO_LARGE)]
+    TooLarge,
     /// The line is no JSON text.
     #[error("not JSON: {0}")]
     NotJson(serde_json::Error),

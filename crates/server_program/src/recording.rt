@@ -4,6 +4,7 @@
 use httpedge::Event;
 use serde_json::Value;
 use std::alloc::{AllocError, Global};
+use std::fs::OpenFile;
 use std::io::{self, Write};
 
 /// The digits of bytes.
@@ -54,8 +55,29 @@ pub fn line_of(alloc: Global, event: &Event) -> Result<String, AllocError> {
     }
 }
 
-/// Writes the line of an event.
-pub fn record<W: Write>(alloc: Global, writer: &mut W, event: &Event) -> io::Result<()> {
-    let line = line_of(alloc, event)?;
-    writer.write_all(line.as_bytes())
+/// A file that gets the lines of events.
+#[derive(Drop)]
+pub(crate) struct Record<F: Drop> {
+    file: F,
+    /// How many bytes its lines have.
+    length: u64,
+}
+
+impl<F: Write + OpenFile + Drop> Record<F> {
+    /// A record in a file without bytes.
+    pub(crate) fn new(file: F) -> Record<F> {
+        Record { file, length: 0 }
+    }
+
+    /// Writes the line of an event, all of it or nothing: what was written of a line that couldn't be written whole is cut off.
+    pub(crate) fn keep(&mut self, alloc: Global, event: &Event) -> io::Result<()> {
+        let line = line_of(alloc, event)?;
+        if let Err(error) = self.file.write_all(line.as_bytes()) {
+            // What is no file can't be cut.
+            let _ = self.file.set_len(self.length);
+            return Err(error);
+        }
+        self.length = self.length.saturating_add(line.len() as u64);
+        Ok(())
+    }
 }

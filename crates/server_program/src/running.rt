@@ -28,7 +28,7 @@ fn listener_on<R: Net>(rt: &R, port: u16) -> Result<R::Listener, RunFault> {
 }
 
 /// Who is told what happens.
-fn witness_of<'a, R: Files + Clock + Eprint + AllocGlobal>(
+fn witness_of<'a, R: Files + Net + Clock + Eprint + AllocGlobal>(
     rt: &'a R,
     options: &ServerOptions<'a>,
 ) -> Result<Witness<'a, R>, ServerFault> {
@@ -82,10 +82,10 @@ fn fault_at_once<R: Clock>(rt: &R, error: io::Error) -> ServerFault {
 }
 
 /// Serves many connections at once, until so many are over, and follows the types file.
-fn serve_at_once<'a, R: Files + Clock + Print + Eprint + AllocGlobal>(
+fn serve_at_once<'a, R: Files + Net + Clock + Print + Eprint + AllocGlobal>(
     rt: &'a R,
     server: &mut polling::Server,
-    file: &mut FollowedFile<'a>,
+    file: &mut FollowedFile<'a, R>,
     options: &ServerOptions<'a>,
 ) -> Result<(), ServerFault> {
     let port = server.port()?;
@@ -98,8 +98,7 @@ fn serve_at_once<'a, R: Files + Clock + Print + Eprint + AllocGlobal>(
         server
             .turn(rt, &mut witness)
             .map_err(|error| fault_at_once(rt, error))?;
-        file.look(rt, &mut witness, server)
-            .map_err(ServerFault::Clock)?;
+        file.look(&mut witness, server).map_err(ServerFault::Clock)?;
     }
     // More turns than a count of connections can tell.
     Err(ServerFault::Socket(io::Error::from(ErrorKind::Other)))
@@ -123,7 +122,7 @@ fn run_at_once<'a, R: Files + Net + Clock + Print + Eprint + AllocGlobal>(
         error,
     ))?;
     let now = Instant::now(rt).map_err(ServerFault::Clock)?;
-    let mut file = FollowedFile::new(options.types, text, now);
+    let mut file = FollowedFile::new(rt, options.types, text, now);
     serve_at_once(rt, &mut server, &mut file, options)
 }
 

@@ -1,11 +1,16 @@
-//! Who is told all that happens to a server's hub: it keeps the record, and tells what is logged on the standard error.
+//! Who is told all that happens to a server's hub: it keeps the record, and has the log and what fails told on the standard
+//! error.
 
-use crate::logging::{Log, Moment};
-use crate::recording::record;
-use httpedge::{Event, Hub, HubFault};
+use crate::log_line::Moment;
+use crate::logging::Log;
+use crate::recording::Record;
+use crate::standard_error::StandardError;
+use httpedge::{Effect, Event, Hub, HubFault};
 use observing::Observer;
+use std::fmt;
 use std::fs::OpenOptions;
-use std::io;
+use std::io::{self, ErrorKind};
+use std::net::Net;
 use std::rt::{Clock, Files};
 use std::time::{Instant, SystemTime, UNIX_EPOCH};
 
@@ -15,8 +20,19 @@ pub struct Witness<'a, R: Files> {
     rt: &'a R,
     path: &'a str,
     /// The record; none where none is asked for, or it couldn't be written.
-    file: Option<R::File>,
-    log: Option<Log>,
+    record: Option<Record<R::File>>,
+    log: Log,
+    errors: StandardError<'a, R>,
+}
+
+/// Why the record of this path can't be written.
+#[derive(Drop)]
+struct RecordFault<'a>(&'a str, io::Error);
+
+impl fmt::Display for RecordFault<'_> {
+    fn fmt<W: fmt::Write>(&self, f: &mut fmt::Formatter<W>) -> fmt::Result {
+        write!(f, "record {}: {}", self.0, self.1)
+    }
 }
 
 /// A file of this path without bytes.
@@ -37,23 +53,19 @@ fn moment<R: Clock>(rt: &R) -> io::Result<Moment> {
     Ok(Moment { now, since_1970 })
 }
 
-impl<'a, R: Files + Clock + Eprint + AllocGlobal> Witness<'a, R> {
-    /// Tells what is asked for: a record in a file of this path, a log.
+impl<'a, R: Files + Net + Clock + Eprint + AllocGlobal> Witness<'a, R> {
+    /// Tells what fails, and what is asked for: a record in a file of this path, a log.
     pub fn new(rt: &'a R, path: Option<&'a str>, is_logging: bool) -> io::Result<Witness<'a, R>> {
-        let log = if is_logging {
-            Some(Log::new(rt.alloc(), Instant::now(rt)?))
-        } else {
-            None
-        };
         let mut witness = Witness {
             rt,
             path: path.unwrap_or(""),
-            file: None,
-            log,
+            record: None,
+            log: Log::new(rt.alloc(), is_logging, Instant::now(rt)?),
+            errors: StandardError::new(rt),
         };
         if let Some(path) = path {
             match created(rt, path) {
-                Ok(file) => witness.file = Some(file),
+                Ok(file) => witness.record = Some(Record::new(file)),
                 Err(error) => witness.lose(error),
             }
         }
@@ -62,44 +74,44 @@ impl<'a, R: Files + Clock + Eprint + AllocGlobal> Witness<'a, R> {
 
     /// The record can't be written: that is told, and nothing more is recorded.
     fn lose(&mut self, error: io::Error) {
-        self.file = None;
-        let _ = eprintln!(self.rt; "record {}: {error}", self.path);
+        self.record = None;
+        let fault = RecordFault(self.path, error);
+        self.errors.print(&fault);
     }
 
     fn keep(&mut self, event: &Event) {
-        let Some(file) = &mut self.file else {
+        let Some(record) = &mut self.record else {
             return;
         };
-        if let Err(error) = record(self.rt.alloc(), file, event) {
+        if let Err(error) = record.keep(self.rt.alloc(), event) {
             self.lose(error);
         }
     }
 }
 
-impl<'a, R: Files + Clock + Eprint + AllocGlobal> Observer for Witness<'a, R> {
-    fn sees(&mut self, hub: &Hub, event: &Event) {
+impl<'a, R: Files + Net + Clock + Eprint + AllocGlobal> Observer for Witness<'a, R> {
+    fn sees(&mut self, event: &Event) {
         self.keep(event);
-        let Some(log) = &mut self.log else {
+        if !self.log.tells_all() {
             return;
-        };
+        }
         if let Ok(now) = Instant::now(self.rt) {
-            log.begin(hub, event, now);
+            self.log.begin(now);
         }
     }
 
-    fn learns(&mut self, hub: &Hub, event: &Event, done: &Result<(), HubFault>) {
-        let Some(log) = &mut self.log else {
+    fn learns(&mut self, hub: &Hub, event: &Event, done: &Result<Effect, HubFault>) {
+        if !self.log.tells(event, done) {
             return;
-        };
-        let Ok(moment) = moment(self.rt) else {
-            return;
-        };
-        // Out of memory, a line is left out.
-        let Ok(text) = log.end(hub, event, done, moment) else {
-            return;
-        };
-        if !text.is_empty() {
-            let _ = self.rt.eprint(text.as_str());
+        }
+        if let Ok(moment) = moment(self.rt) {
+            self.log.tell(&mut self.errors, hub, event, done, moment);
+        }
+    }
+
+    fn loses(&mut self, id: u64, why: ErrorKind) {
+        if let Ok(moment) = moment(self.rt) {
+            self.log.tell_loss(&mut self.errors, id, why, moment);
         }
     }
 }

@@ -6,12 +6,13 @@
 //! | `options WORDS` | the options that these words ask for, behind the program's name |
 //! | `line STEP` | the line of a script by which the event of a step of `hub_rows` happens |
 //! | `fault NAME` | the exit status and the text of a call's fault |
+//! | `log METHOD TARGET STATUS BYTES MICROS` | the line of a reply that took so many microseconds, on connection 7 at the start of 1970 |
 
 use crate::given::{WIDGET_TYPES, fresh_api};
 use crate::hub_rows::event_of;
 use crate::streams::given::LIST;
-use httpedge::{Event, Hub};
-use server_program::{Log, Moment, ServerFault, options};
+use httpedge::{Effect, Event, Hub, HubFault};
+use server_program::{Line, Log, LogCall, Moment, ServerFault, Sink, Told, options};
 use std::alloc::{AllocError, Global};
 use std::mem;
 use std::test::Fail;
@@ -55,6 +56,21 @@ fn ended(alloc: Global, name: &str) -> Result<String, Fail> {
     Ok(format!(in alloc; "{}: {fault}", fault.status())?)
 }
 
+/// The line of a reply, by the words of a row.
+fn logged(alloc: Global, words: &str) -> Result<String, Fail> {
+    let (method, rest) = first_word(words);
+    let (target, rest) = first_word(rest);
+    let (status, rest) = first_word(rest);
+    let (bytes, micros) = first_word(rest);
+    let told = Told::Reply(
+        u16::try_from(number(status)?).ok(),
+        number(bytes)?,
+        Duration::from_micros(number(micros)?),
+    );
+    let line = Line::new(Duration::ZERO, 7, LogCall { method, target }, told);
+    Ok(format!(in alloc; "{line}")?)
+}
+
 /// What answers by the program's library.
 #[derive(Drop)]
 struct Program;
@@ -66,6 +82,7 @@ impl Answers for Program {
             "options" => options_in_words(alloc, rest),
             "line" => line_of_step(alloc, rest),
             "fault" => ended(alloc, rest),
+            "log" => logged(alloc, rest),
             _ => Err("no such question".into()),
         }
     }
@@ -93,6 +110,13 @@ line tick 1000 => {"tick":1000}$
 line compact 7 => {"compact":7}$
 line types 0 {"types": [ ]} => {"types":{"types":[]}}$
 
+replies_are_logged: milliseconds; the manager that the target's query names first, as it stands there; bytes that are no printable ASCII
+log GET /a 200 188 102 => 0.000 7 GET /a 200 188 - 0.102
+log PATCH /a?force=true&fieldManager=alice&x=1 201 413 1234567 => 0.000 7 PATCH /a?force=true&fieldManager=alice&x=1 201 413 alice 1234.567
+log PUT /a?xfieldManager=b&fieldManager=c%20d&fieldManager=e 200 1 999 => 0.000 7 PUT /a?xfieldManager=b&fieldManager=c%20d&fieldManager=e 200 1 c%20d 0.999
+log PUT /a?fieldManager= 422 1 1000 => 0.000 7 PUT /a?fieldManager= 422 1 - 1.000
+log GET /é 404 20 0 => 0.000 7 GET /\xc3\xa9 404 20 - 0.000
+
 faults_of_calls_are_told
 fault Store => 5: the store failed
 fault Unreadable => 5: the store failed
@@ -110,19 +134,45 @@ fn no_text_is_recorded_as_digits(rt: HostRuntime) -> Result<(), Fail> {
     expect_text(recorded(rt.alloc(), &event)?, r#"{"bytes":[3,"61ff"]}$"#)
 }
 
-/// What is told of an event.
-fn told(hub: &mut Hub, log: &mut Log, moment: Moment, event: &Event) -> Result<String, AllocError> {
-    log.begin(hub, event, moment.now);
-    let done = hub.on(event);
-    log.end(hub, event, &done, moment)
+/// The lines that were told.
+#[derive(Drop)]
+struct Lines {
+    alloc: Global,
+    text: String,
 }
 
-/// What is told of a list on a connection that opens.
+impl Sink for Lines {
+    fn tell(&mut self, line: &Line<'_>) {
+        if let Ok(shown) = format!(in self.alloc; "{line}\n") {
+            let _ = self.text.push_str(shown.as_str());
+        }
+    }
+}
+
+/// A call in a function of its own, so that what calls it carries none of its clauses.
+fn step(hub: &mut Hub, event: &Event) -> Result<Effect, HubFault> {
+    hub.step(event)
+}
+
+/// Tells of an event.
+fn tell(hub: &mut Hub, log: &mut Log, lines: &mut Lines, moment: Moment, event: &Event) {
+    log.begin(moment.now);
+    let done = step(hub, event);
+    log.tell(lines, hub, event, &done, moment);
+}
+
+/// What is told of a list on a connection that opens, and whose peer then goes.
 fn list_told(alloc: Global, hub: &mut Hub, moment: Moment) -> Result<String, Fail> {
     let asked = Event::In(1, Vec::from_slice(alloc, LIST.as_bytes())?);
-    let mut log = Log::new(alloc, moment.now);
-    told(hub, &mut log, moment, &Event::Open(1))?;
-    Ok(told(hub, &mut log, moment, &asked)?)
+    let mut log = Log::new(alloc, true, moment.now);
+    let mut lines = Lines {
+        alloc,
+        text: String::new(alloc),
+    };
+    tell(hub, &mut log, &mut lines, moment, &Event::Open(1));
+    tell(hub, &mut log, &mut lines, moment, &asked);
+    tell(hub, &mut log, &mut lines, moment, &Event::Gone(1));
+    Ok(lines.text)
 }
 
 /// A line of the log begins with its moment, of three digits behind the seconds, and ends with how long it took. The hub is not
@@ -138,6 +188,6 @@ fn a_request_is_logged_at_its_moment(rt: HostRuntime) -> Result<(), Fail> {
     mem::forget(hub);
     expect_text(
         told?,
-        "1764391355.007 1 GET /apis/demo.example/v1/widgets 200 188 0\n",
+        "1764391355.007 1 GET /apis/demo.example/v1/widgets 200 188 - 0.000\n",
     )
 }

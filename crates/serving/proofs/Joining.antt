@@ -6,7 +6,6 @@ use Rattle.std.proofs.lemmas.Grind.{flat_map-append}
 use Rattle.std.proofs.Math.Dec.{eqb_refl}
 use Rattle.std.proofs.lemmas.List.{map-append}
 use Rattle.httpedge.specs.Connections.{Connection, gone, has_ended, is_open, open_on, out_on, with_phase}
-use Rattle.httpedge.specs.HubViews.{HubRepresents}
 use Rattle.httpedge.specs.Runs.{Follows, Action, HappensElsewhere, IsElsewhere, Runs, Subject, bytes_of, connection, happens, runs_out_of_memory, subject, takes}
 use Rattle.httpedge.specs.Steps.{Event, State, by_connection, comes, goes, ticks, unknown_id, unless_refused, with_bytes_taken, with_connection}
 use Rattle.httpedge.specs.StreamViews.{Compacts, MovesBy, Hands, HandsIf}

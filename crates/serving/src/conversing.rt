@@ -15,8 +15,9 @@ use wire::{read_piece, write_prefix};
 fn open<O: Observer>(hub: &mut Hub, observer: &mut O, id: u64) -> io::Result<()>
     ensures { HasTurns id hub.old [] [] hub.new }
 {
+    // Why it wasn't done is told of the event.
     if !hand(hub, observer, Event::Open(id)) {
-        return Err(io::Error::from(ErrorKind::OutOfMemory));
+        return Err(io::Error::from(ErrorKind::Other));
     }
     Ok(())
 }
@@ -26,6 +27,15 @@ pub(crate) fn leave<O: Observer>(hub: &mut Hub, observer: &mut O, id: u64)
     ensures { Goes id hub.old hub.new }
 {
     hand(hub, observer, Event::Gone(id));
+}
+
+/// Tells where it is memory that fails the stream of a connection, and not its peer.
+fn report_loss<O: Observer>(observer: &mut O, id: u64, done: &io::Result<()>) {
+    if let Err(error) = done {
+        if error.kind() == ErrorKind::OutOfMemory {
+            observer.loses(id, ErrorKind::OutOfMemory);
+        }
+    }
 }
 
 /// Some of the bytes that a reader has next; an error where it has none.
@@ -106,6 +116,7 @@ pub fn turn<O: Observer, R: Read, W: Write>(
 {
     let done = converse(alloc, hub, observer, id, reader, writer);
     if done.is_err() {
+        report_loss(observer, id, &done);
         leave(hub, observer, id);
     }
     done

@@ -17,7 +17,7 @@ use httpedge::{Event, Hub};
 use observing::{Observer, compact, hand};
 use std::alloc::Global;
 use std::io;
-use std::io::{Read, Write};
+use std::io::{ErrorKind, Read, Write};
 use verbs::Api;
 
 /// What a server keeps, and how much it writes at a time.
@@ -135,6 +135,7 @@ impl<W: Write + Drop> Server<W> {
             return false;
         }
         if self.watches.push((id, writer)).is_err() {
+            observer.loses(id, ErrorKind::OutOfMemory);
             leave(&mut self.hub, observer, id);
             return false;
         }

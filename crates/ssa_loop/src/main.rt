@@ -2,11 +2,12 @@
 //! prints the same. Its body stands in the crate `scripts`.
 #![tactic(auto)]
 
-use programs::{end_with, read_arguments};
+use programs::{end_with, hold_standard_streams, read_arguments};
 use scripts::ssa_loop;
 use std::process::ExitCode;
 
 fn main(rt: HostRuntime) -> ExitCode {
+    hold_standard_streams(&rt);
     match read_arguments(&rt) {
         Ok(arguments) => ssa_loop(&rt, &arguments),
         Err(fault) => end_with(&rt, &fault),

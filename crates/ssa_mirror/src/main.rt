@@ -3,10 +3,11 @@
 #![tactic(auto)]
 
 use mirror_program::ssa_mirror;
-use programs::{end_with, read_arguments};
+use programs::{end_with, hold_standard_streams, read_arguments};
 use std::process::ExitCode;
 
 fn main(rt: HostRuntime) -> ExitCode {
+    hold_standard_streams(&rt);
     match read_arguments(&rt) {
         Ok(arguments) => ssa_mirror(&rt, &arguments),
         Err(fault) => end_with(&rt, &fault),

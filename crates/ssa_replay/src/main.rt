@@ -7,7 +7,7 @@
 ghost use Rattle.std.specs.Path.{path_file_name};
 ghost use Rattle.std.specs.Prelude.{◌≡◌, ◌↔◌, ◌⊎◌, Some, IsTrue, codes};
 
-use programs::{end_with, read_arguments};
+use programs::{end_with, hold_standard_streams, read_arguments};
 use scripts::{ssa_pipe, ssa_replay};
 use std::path::Path;
 use std::process::ExitCode;
@@ -23,6 +23,7 @@ fn is_pipe(path: &str) -> bool
 }
 
 fn main(rt: HostRuntime) -> ExitCode {
+    hold_standard_streams(&rt);
     match read_arguments(&rt) {
         Ok(arguments) => match arguments.first() {
             Some(path) if is_pipe(path.as_str()) => ssa_pipe(&rt, &arguments),

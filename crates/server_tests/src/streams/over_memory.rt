@@ -22,6 +22,8 @@ pub struct Memory<'a> {
     pub ends: bool,
     /// How many reads succeed.
     pub reads: usize,
+    /// Why a read fails.
+    pub error: ErrorKind,
     /// What it took.
     pub taken: Vec<u8>,
     /// How many bytes it takes before it takes none for now.
@@ -38,6 +40,7 @@ impl<'a> Memory<'a> {
             second,
             ends: false,
             reads: PLENTY,
+            error: ErrorKind::ConnectionReset,
             taken: Vec::new(alloc),
             room: usize::MAX,
             writes: PLENTY,
@@ -48,7 +51,7 @@ impl<'a> Memory<'a> {
 impl<'a> Read for Memory<'a> {
     fn read(&mut self, buf: &mut [u8]) -> io::Result<usize> {
         if self.reads == 0 {
-            return Err(io::Error::from(ErrorKind::ConnectionReset));
+            return Err(io::Error::from(self.error));
         }
         self.reads -= 1;
         let most = cmp::min(buf.len(), MOST);

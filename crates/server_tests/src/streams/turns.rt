@@ -9,6 +9,7 @@ use observing::Unobserved;
 use polling::{Next, Peer};
 use serving::{pump, turn};
 use std::alloc::Global;
+use std::io::ErrorKind;
 use std::mem;
 use std::test::Fail;
 use std::time::Instant;
@@ -110,6 +111,20 @@ fn fails_beside_another(
     expect_turns(rt, hub, id.saturating_add(1), other, &turns)
 }
 
+/// A stream can't be read any more once its request is whole: it takes the whole reply, and then this comes next.
+fn fails_behind_its_request(
+    rt: &HostRuntime,
+    hub: &mut Hub,
+    id: u64,
+    error: ErrorKind,
+    next: Next,
+) -> Result<(), Fail> {
+    let mut failing = Memory::new(rt.alloc(), LIST.as_bytes(), b"");
+    failing.reads = LIST.len().div_ceil(MOST);
+    failing.error = error;
+    expect_turns(rt, hub, id, failing, &[(next, NO_ITEMS.as_bytes())])
+}
+
 /// A stream fails at each read and at each write.
 fn fails_anywhere(rt: &HostRuntime, hub: &mut Hub) -> Result<(), Fail> {
     for reads in 0..LIST.len().div_ceil(MOST) {
@@ -122,7 +137,9 @@ fn fails_anywhere(rt: &HostRuntime, hub: &mut Hub) -> Result<(), Fail> {
         let prefix = NO_ITEMS.as_bytes().get(..taken).unwrap_or(b"");
         fails_beside_another(rt, hub, id, (PLENTY, writes), prefix)?;
     }
-    Ok(())
+    let memory = ErrorKind::OutOfMemory;
+    fails_behind_its_request(rt, hub, 1000, ErrorKind::ConnectionReset, Next::Over)?;
+    fails_behind_its_request(rt, hub, 1001, memory, Next::Failed(memory))
 }
 
 /// A watch for which bytes wait isn't pumped: no more waits than one pump wrote, and nothing is lost.

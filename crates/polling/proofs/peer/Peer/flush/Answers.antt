@@ -1,8 +1,11 @@
-use Rattle.polling.proofs.Leading.{writes_reaches}
 use Rattle.polling.proofs.peer.Peer.flush.Goals as goal
 
 pub returns-in_default : goal.returns-in_default
-returns-in_default g c = writes_reaches _ _ _ _ _ c.write_out-written.ensures.sent_bytes
+returns-in_default g c =
+    let sends = c.write_out-written.ensures.sent_bytes in
+    (c.write_out-written.new.writer, sends.0, sends.1, sends.2)
 
 pub returns : goal.returns
-returns g c = writes_reaches _ _ _ _ _ c.write_out-written.ensures.sent_bytes
+returns g c =
+    let sends = c.write_out-written.ensures.sent_bytes in
+    (c.write_out-written.new.writer, sends.0, sends.1, sends.2)

@@ -1,8 +1,8 @@
-use Rattle.polling.proofs.Leading.{any_none, any_same, any_then, reaches_any}
+use Rattle.polling.proofs.Leading.{unasked_none, unasked_same, unasked_then, unasked_all}
 use Rattle.polling.proofs.peers.Peers.close.Goals as goal
 
 pub returns-then-is_none : goal.returns-then-is_none
-returns-then-is_none g c = any_none _
+returns-then-is_none g c = unasked_none _
 
 pub returns : goal.returns
-returns g c = any_then _ _ _ (reaches_any _ _ _ c.part.ensures) (any_then _ _ _ (any_same _ _ c.count_closed.ensures) (any_same _ _ c.accept_anew.ensures))
+returns g c = unasked_then _ _ _ (unasked_all _ _ _ c.part.ensures) (unasked_then _ _ _ (unasked_same _ _ c.count_closed.ensures) (unasked_same _ _ c.accept_anew.ensures))

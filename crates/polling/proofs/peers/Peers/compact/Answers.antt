@@ -1,8 +1,8 @@
-use Rattle.polling.proofs.Leading.{any_none, reaches_compacts}
+use Rattle.polling.proofs.Leading.{unasked_compacts, unasked_none}
 use Rattle.polling.proofs.peers.Peers.compact.Goals as goal
 
 pub returns-then-is_due : goal.returns-then-is_due
-returns-then-is_due g c = reaches_compacts _ _ _ c.compact.ensures
+returns-then-is_due g c = unasked_compacts _ _ _ c.compact.ensures
 
 pub returns-else-is_due : goal.returns-else-is_due
-returns-else-is_due g c = any_none _
+returns-else-is_due g c = unasked_none _

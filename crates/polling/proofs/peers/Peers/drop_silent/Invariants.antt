@@ -1,5 +1,5 @@
-use Rattle.polling.specs.Happens.{Reaches}
+use Rattle.polling.specs.Happens.{ReachesUnasked}
 use Rattle.polling.proofs.peers.Peers.drop_silent.Given as goal
 
 abbrev pub invariant-loop-id : goal.invariant-loop-id
-invariant-loop-id g l = Reaches l.fn.self.hub l.self.hub
+invariant-loop-id g l = ReachesUnasked l.fn.self.hub l.self.hub

@@ -1,8 +1,8 @@
-use Rattle.polling.proofs.Leading.{any_same, any_then}
+use Rattle.polling.proofs.Leading.{unasked_same, unasked_then}
 use Rattle.polling.proofs.peers.Peers.follow.Goals as goal
 
-pub returns-then-not-goes_on : goal.returns-then-not-goes_on
-returns-then-not-goes_on g c = any_then _ _ _ (any_same _ _ c.await_next-goes_on.ensures) c.close.ensures
+pub returns-then-is_over : goal.returns-then-is_over
+returns-then-is_over g c = unasked_then _ _ _ (unasked_same _ _ c.await_next-next.ensures) c.close.ensures
 
-pub returns-else-not-goes_on : goal.returns-else-not-goes_on
-returns-else-not-goes_on g c = any_same _ _ c.await_next-goes_on.ensures
+pub returns-else-is_over : goal.returns-else-is_over
+returns-else-is_over g c = unasked_same _ _ c.await_next-next.ensures

@@ -1,8 +1,9 @@
-use Rattle.polling.proofs.Leading.{any_none, reaches_by_any}
+use Rattle.std.proofs.Common.{refl}
+use Rattle.polling.proofs.Leading.{unasked_event, unasked_none}
 use Rattle.polling.proofs.peers.Peers.tick.Goals as goal
 
 pub returns-then-is_early : goal.returns-then-is_early
-returns-then-is_early g c = any_none _
+returns-then-is_early g c = unasked_none _
 
 pub returns : goal.returns
-returns g c = reaches_by_any _ _ _ c.hand.ensures.hands
+returns g c = unasked_event _ _ _ c.hand.ensures.hands refl

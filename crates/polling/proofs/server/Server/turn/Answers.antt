@@ -1,4 +1,4 @@
-use Rattle.polling.proofs.Leading.{any_none, any_same, any_then}
+use Rattle.polling.proofs.Leading.{any_none, any_same, any_then, unasked_any}
 use Rattle.polling.proofs.server.Server.turn.Goals as goal
 
 pub returns-in_err-before : goal.returns-in_err-before
@@ -13,4 +13,4 @@ returns-in_err-now g c = any_same _ _ c.wait.ensures
 pub returns : goal.returns
 returns g c =
     any_then _ _ _ (any_same _ _ c.wait.ensures) (any_then _ _ _ c.look_again.ensures (any_then _ _ _ c.take_reports.ensures
-    (any_then _ _ _ c.accept_all.ensures c.settle.ensures)))
+    (any_then _ _ _ c.accept_all.ensures (unasked_any _ _ c.settle.ensures))))
