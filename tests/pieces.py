@@ -1,7 +1,6 @@
 """Requests that come in pieces, or not whole: cut at every place or at many, byte by byte, and every prefix of them.
 
-`ssa-pipe` gets slower with each connection that it has had, so that a fresh one is taken after a hundred; each must then
-hold what the first one holds.
+They come to a fresh server, which then has to hold what the first one holds.
 """
 
 from __future__ import annotations
@@ -18,7 +17,7 @@ from served import Served, bytes_come, expect_done, request_comes
 
 # Up to so many bytes are cut at each place; more are so near to either end, and else at each place that APART divides.
 WHOLE, NEAR, APART = 4096, 512, 16
-# After so many connections a fresh server is taken.
+# The events of so many connections are made at once.
 MOST = 100
 ALL = request_of("GET widgets")
 
@@ -66,8 +65,8 @@ def cut_anywhere(served: Served, first: int, data: bytes) -> str:
     """What comes of bytes that come in two pieces, on connections from an id on: the same wherever they are cut."""
     answer = ""
     places = cuts_of(len(data))
-    while cuts := [*islice(places, MOST)]:
-        with beside(served) as fresh:
+    with beside(served) as fresh:
+        while cuts := [*islice(places, MOST)]:
             for cut, came in zip(cuts, cut_at(fresh, first, data, cuts)):
                 if cut and came != answer:
                     raise Wrong(f"cut at {cut}: {came}, and not {answer}")
@@ -101,13 +100,15 @@ def is_refused(served: Served, id: int, prefix: Prefix, may_be: bool) -> bool:
     raise Wrong(f"a prefix was answered: ..{text!r}: {reply[:100]}")
 
 
-def prefixes_come(served: Served, some: list[Prefix], was_refused: bool) -> bool:
-    """Prefixes come, each on a connection of its own: whether the last was refused."""
+def prefixes_come(
+    served: Served, some: list[tuple[int, Prefix]], was_refused: bool
+) -> bool:
+    """Prefixes come, each on the connection of its id: whether the last was refused."""
     events: list[Event] = []
-    for id, prefix in enumerate(some, 1):
+    for id, prefix in some:
         events += [*request_comes(id, prefix.data), {"gone": id}]
     done = served.each(events)
-    for id, prefix in enumerate(some, 1):
+    for id, prefix in some:
         expect_done(done, 2)
         may_be = prefix.is_head or (was_refused and prefix.data != b"")
         was_refused = is_refused(served, id, prefix, may_be)
@@ -118,10 +119,10 @@ def prefixes_come(served: Served, some: list[Prefix], was_refused: bool) -> bool
 def prefixes_of(served: Served, requests: Iterable[bytes]) -> None:
     """Every prefix of these comes. A request that its head alone decides is refused with the head's last byte, and with
     more."""
-    come = (it for request in requests for it in prefixes(request))
+    come = enumerate((it for request in requests for it in prefixes(request)), 1)
     was_refused = False
-    while some := [*islice(come, MOST)]:
-        with beside(served) as fresh:
+    with beside(served) as fresh:
+        while some := [*islice(come, MOST)]:
             was_refused = prefixes_come(fresh, some, was_refused)
 
 

@@ -91,7 +91,7 @@ ROWS = (
     (
         Box(
             "Streams",
-            ("polling", "serving", "observing", "recorder"),
+            ("polling", "serving", "observing"),
             "Over streams whose bytes are known, what comes and goes is what the hub took and wrote.",
             (0, 8),
         ),

@@ -44,8 +44,8 @@ reports_emitted keys indexes names label (x ∷ xs) (r ∷ rs) (first, rest) =
     ap₂ (λ (a b : List ℕ). a ++ b) (report_emitted keys indexes names label x r first) (reports_emitted keys indexes names label xs rs rest)
 
 last_emitted : (n : ℕ) (r : Option refusals.Refusal) (o : Option Refusal) (why : List ℕ) → Refuses r o → last_text n r why ≡ flat_map part_text (last_part n (is_none o) why ∷ [])
-last_emitted n None o why refuses = sym (append-nil _) ∙ ap (λ (x : Option Refusal). flat_map part_text (last_part n (is_none x) why ∷ [])) (sym refuses)
-last_emitted n (Some r) o why (seen, some) = sym (append-nil _) ∙ ap (λ (b : Bool). flat_map part_text (last_part n b why ∷ [])) (sym some)
+last_emitted n None o why refuses = sym (append-nil _) ∙ ap (λ (x : Option Refusal). flat_map part_text (last_part n (is_none x) why ∷ [])) refuses
+last_emitted n (Some r) o why refuses = sym (append-nil _) ∙ ap (λ (x : Option Refusal). flat_map part_text (last_part n (is_none x) why ∷ [])) refuses
 
 pieces : {a b c d e a' b' c' d' e' : List ℕ} → a ≡ a' → b ≡ b' → c ≡ c' → d ≡ d' → e ≡ e' → a ++ (b ++ (c ++ (d ++ e))) ≡ a' ++ (b' ++ (c' ++ (d' ++ e')))
 pieces p q r s t = rw (p, q, r, s, t) refl

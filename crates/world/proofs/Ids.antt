@@ -18,7 +18,7 @@ use Rattle.httpedge.specs.Runs.{Steps}
 use Rattle.httpedge.specs.Steps.{Event, Refusal, State, opens, comes, goes, pumps, ticks, compacts, retypes, by_connection, applied_event, id_not_above, opening, received_by, refusal, start, unless_refused}
 use Rattle.httpedge.proofs.Connected.{tied_same}
 use Rattle.httpedge.proofs.OtherTypes.{same_connections}
-use Rattle.recorder.proofs.Kept.{refused_same}
+use Rattle.world.proofs.Kept.{refused_same}
 use Rattle.world.specs.Views.{reply_seen}
 use Rattle.world.specs.Serving.{all_written, opened_by, written_at}
 

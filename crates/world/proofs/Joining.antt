@@ -22,7 +22,8 @@ use Rattle.httpedge.specs.Connections as connections
 use Rattle.world_laws.specs.Tasks.{Task, client_settings, wanted_by}
 use Rattle.world_laws.specs.World as worlds
 use Rattle.world_laws.specs.World.{ClientConnection, ComesInOnePiece, Cuts, Delivers, Hands, Happens, HubTakes, Leaves, Reconciles, Requests, Sends, Steps, TakesUnless, ToClient, ToServer, World, WorldEvent}
-use Rattle.world.specs.Stepping.{added, added_on, is_some_bytes, joined_on}
+use Rattle.httpedge.specs.Effects.{added_on}
+use Rattle.world.specs.Stepping.{added, is_some_bytes, joined_on}
 use Rattle.world.proofs.Worlds.{Grown, Grows, grown, grown_twice}
 
 -- ---- an event

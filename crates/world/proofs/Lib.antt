@@ -4,8 +4,9 @@ pub mod Failing
 pub mod Ids
 pub mod Indexed
 pub mod Joining
-pub mod Marking
+pub mod Kept
 pub mod NextMoves
+pub mod Noted
 pub mod Refusals
 pub mod Reports
 pub mod Shots

@@ -1,4 +1,5 @@
 pub mod FaultViews
+pub mod Recording
 pub mod Extents
 pub mod Reporting
 pub mod Views

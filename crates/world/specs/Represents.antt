@@ -16,6 +16,7 @@ use Rattle.summary.specs.Counts.{summed_of}
 use Rattle.summary.specs.Summary.{summed}
 use Rattle.world_laws.specs.Tasks.{Task, client_settings, wanted_by}
 use Rattle.world_laws.specs.World.{ClientConnection, World}
+use Rattle.world.specs.Extents.{NotesFollow}
 use Rattle.world.specs.Views.{connection_seen, place_seen}
 use Rattle.world.specs.Serving.{Serves}
 use Rattle.world.specs.declared.world.World as worlds
@@ -47,6 +48,10 @@ pub record WorldRepresents {I : Type 0} (keys : I → Stored → List (List ℕ)
   pub counted : summed x.summary ≡ summed_of task.settings.label o
   pub label : string_bytes x.label ≡ task.settings.label
   pub place : place_seen x.place ≡ task.settings.summary
+
+-- wherever the notes were begun of how far connections were, they go on from one world to the next
+abbrev pub NotesLead : {I : Type 0} → worlds.World I → World → worlds.World I → World → Type 0
+NotesLead x w y v = NotesFollow x.server.noted w.hub y.server.noted v.hub
 
 -- how a client was made
 pub record Setup (I : Type 0) : Type 0 where

@@ -4,13 +4,13 @@ use Rattle.std.specs.FinMap as fin
 use Rattle.httpedge.specs.Connections.{ended_on, written_on}
 use Rattle.httpedge.specs.Runs.{Steps}
 use Rattle.httpedge.specs.Steps as edge
-use Rattle.recorder.specs.Recorded.{RecorderRepresents}
 use Rattle.world_laws.specs.World.{ClientConnection}
+use Rattle.world.specs.Recording.{Records}
 use Rattle.world.specs.declared.server.Server.{Server}
 
 -- its hub is in this state, and the ids are those of all connections
 abbrev pub Serves : Server → edge.State → Type 0
-Serves server s = RecorderRepresents server.recorder s × (server.ids.items ≡ fin.keys s.connections)
+Serves server s = Records server.recording s × (server.ids.items ≡ fin.keys s.connections)
 
 -- the id that an event opens, if it isn't refused
 abbrev pub opened_by : edge.Event → List ℕ

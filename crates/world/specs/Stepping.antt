@@ -1,18 +1,21 @@
 -- What one event adds to what a run shows.
-use Rattle.std.specs.Prelude.{◌≡◌, ℕ, Bool, true, false, not, ◌&&◌, ◌==◌, List, [], ◌∷◌, length, map, take, drop, Option, Some, None, if◌then◌else◌, is_none, option_map}
+use Rattle.std.specs.Prelude.{◌≡◌, ℕ, Bool, true, false, not, ◌&&◌, ◌==◌, List, [], ◌∷◌, length, map, take, drop, Option, Some, None, if◌then◌else◌, IfSome, is_none, option_and_then, option_map}
 use Rattle.std.specs.FinMap as fin
 use Rattle.std.specs.List.{filter, flat_map}
 use Rattle.std.specs.Option.{option_to_list}
 use Rattle.std.specs.Ordering.{eq_by_cmp, nat_cmp}
 use Rattle.httpedge.specs.Connections.{ended_on, next_id, written_on}
+use Rattle.httpedge.specs.Effects.{added_on, has_just_ended}
+use Rattle.httpedge.specs.HubViews as hubs
 use Rattle.httpedge.specs.Steps as edge
-use Rattle.recorder.specs.Recorded as recorded
+use Rattle.httpedge.specs.declared.fault.HubRefusal.{HubRefusal}
 use Rattle.indexer.specs.Objects.{Stored}
 use Rattle.reflector.specs.Client.{Cache}
 use Rattle.reflector.specs.InformerViews.{due}
 use Rattle.world_laws.specs.Reports.{reports_after}
 use Rattle.world_laws.specs.Tasks.{Task, client_settings}
 use Rattle.world_laws.specs.World.{ClientConnection, World, WorldEvent, is_by_peer_on, other, reply_on, request, send, to_server, to_client, cut, restart, reconcile}
+use Rattle.world.specs.Recording.{ReportsFile}
 use Rattle.world.specs.Views.{reply_seen}
 use Rattle.world.specs.Shown.{AllShow}
 use Rattle.world.specs.declared.refusal.Refusal as refusals
@@ -73,23 +76,33 @@ refusal_of task w cut = if_connected w.connection
 refusal_of task w restart = None
 refusal_of task w reconcile = if_synced w.client.cache (unless_no_id (next_id w.hub.connections) None)
 
--- as the code tells it; a fault of the hub that is no refusal is told of none
-abbrev pub by_hub_fault : Option edge.Refusal → Option Refusal
-by_hub_fault why = option_map by_hub why
-
-abbrev pub refusal_seen : refusals.Refusal → Option Refusal
-refusal_seen (refusal.Hub f) = by_hub_fault (recorded.refusal_of (Some f))
-refusal_seen refusal.ClientConnection = Some client_connection
-refusal_seen refusal.NoId = Some no_id
-refusal_seen refusal.NothingDue = Some nothing_due
-refusal_seen refusal.NothingWaits = Some nothing_waits
-refusal_seen refusal.NoConnection = Some no_connection
-refusal_seen refusal.NoRevision = Some no_revision
+-- as the code tells it
+abbrev pub refusal_seen : refusals.Refusal → Refusal
+refusal_seen (refusal.Hub why) = by_hub (hubs.refusal_of why)
+refusal_seen refusal.ClientConnection = client_connection
+refusal_seen refusal.NoId = no_id
+refusal_seen refusal.NothingDue = nothing_due
+refusal_seen refusal.NothingWaits = nothing_waits
+refusal_seen refusal.NoConnection = no_connection
+refusal_seen refusal.NoRevision = no_revision
 
 -- it tells whether the event can happen, and why not
 abbrev pub Refuses : Option refusals.Refusal → Option Refusal → Type 0
-Refuses None why = why ≡ None
-Refuses (Some r) why = (refusal_seen r ≡ why) × (is_none why ≡ false)
+Refuses r why = option_map refusal_seen r ≡ why
+
+-- the event, where it is the hub's
+abbrev pub hub_event : WorldEvent → Option edge.Event
+hub_event (other e) = Some e
+hub_event _ = None
+
+-- the hub's refusal, if it is one
+abbrev pub hub_refusal : refusals.Refusal → Option HubRefusal
+hub_refusal (refusal.Hub why) = Some why
+hub_refusal _ = None
+
+-- where other types are refused as no types file, the fault that is told is the file's own
+abbrev pub TellsFault : WorldEvent → Option refusals.Refusal → Type 0
+TellsFault e r = IfSome (hub_event e) (λ h. ReportsFile h (option_and_then hub_refusal r))
 
 -- ---- the connection that it opens by itself
 
@@ -109,10 +122,6 @@ opened_by task w e = if opens_own e && is_none (refusal_of task w e) then next_i
 abbrev pub extent_of : edge.State → ℕ → ℕ × Bool
 extent_of s id = (length (written_on s.connections id), ended_on s.connections id)
 
--- what was written on a connection since it was so far
-abbrev pub added_on : edge.State → edge.State → ℕ → List ℕ
-added_on s t id = drop (length (written_on s.connections id)) (written_on t.connections id)
-
 abbrev pub is_some_bytes : ℕ × List ℕ → Bool
 is_some_bytes e = not (length e.1 == 0)
 
@@ -124,9 +133,6 @@ added s t = filter is_some_bytes (map (λ id. (id, added_on s t id)) (fin.keys t
 abbrev pub joined_on : ℕ → List (ℕ × List ℕ) → List ℕ
 joined_on id es = flat_map (λ e. if eq_by_cmp nat_cmp id e.0 then e.1 else []) es
 
-abbrev pub has_just_ended : edge.State → edge.State → ℕ → Bool
-has_just_ended s t id = ended_on t.connections id && not (ended_on s.connections id)
-
 -- the connections that ended
 abbrev pub ended_since : edge.State → edge.State → List ℕ
 ended_since s t = filter (has_just_ended s t) (fin.keys t.connections)
@@ -136,6 +142,7 @@ ended_since s t = filter (has_just_ended s t) (fin.keys t.connections)
 -- what the event of this number added, which led from one world to another
 pub record ShowsStep {I : Type 0} (keys : I → Stored → List (List ℕ)) (indexes : List I) (names : List (List ℕ)) (task : Task) (number : ℕ) (w : World) (e : WorldEvent) (v : World) (x : Step) : Type 0 where
   pub refused : Refuses x.refused (refusal_of task w e)
+  pub fault : TellsFault e x.refused
   pub opened : x.opened ≡ opened_by task w e
   pub written : map reply_seen x.written.items ≡ added w.hub v.hub
   pub ended : x.ended.items ≡ ended_since w.hub v.hub

@@ -1,6 +1,6 @@
 //! Why a run ended before its last event.
 
-use recorder::RecorderFault;
+use httpedge::HubFailure;
 use std::alloc::{AllocError, AllocFailed};
 use summary::CountFault;
 use thiserror::Error;
@@ -91,16 +91,16 @@ impl<T: Drop> From<AllocFailed<T>> for RunFault {
     }
 }
 
-impl From<RecorderFault> for RunFault {
+impl From<HubFailure> for RunFault {
     ghost use Rattle.std.specs.Prelude.{◌≢◌};
     ghost use Rattle.world.specs.declared.fault.RunFault.TheVariants.{Link};
 
     ghost from_gives = { λ _ e. e ≢ Link };
 
-    fn from(fault: RecorderFault) -> RunFault {
-        match fault {
-            RecorderFault::Memory => RunFault::Memory,
-            RecorderFault::Store => RunFault::Store,
+    fn from(failure: HubFailure) -> RunFault {
+        match failure {
+            HubFailure::Memory => RunFault::Memory,
+            HubFailure::Store => RunFault::Store,
         }
     }
 }

@@ -1,6 +1,6 @@
 //! Why an event can't happen. What happens else stands in `world`.
 
-use httpedge::HubFault;
+use httpedge::HubRefusal;
 use thiserror::Error;
 
 /// Why an event can't happen. It changes nothing.
@@ -8,7 +8,7 @@ use thiserror::Error;
 pub enum Refusal {
     /// The hub refuses it.
     #[error("{0}")]
-    Hub(HubFault),
+    Hub(HubRefusal),
     /// Another peer would open, use or leave the client's connection.
     #[error("the connection is the client's")]
     ClientConnection,

@@ -13,6 +13,7 @@ ghost use Rattle.world.specs.Stepping.{Refuses, ShowsStep, added, joined_on, ope
 ghost use Rattle.world.specs.Stepping as stepping;
 
 use crate::event::WorldEvent;
+use crate::extents::{added_since, ended_since};
 use crate::fault::{RunFault, WorldFault};
 use crate::link::Link;
 use crate::refusal::Refusal;
@@ -74,13 +75,13 @@ fn step_of<I: IndexBy, L: Link>(
     ensures setup { setup_in world.new.client ≡ setup_in world.old.client }
     ensures link { L.may_fail ≡ false → result ≢ Err RunFault.Link }
 {
-    let extents = world.server.extents()?;
     let next = world.server.next_id();
     let before = world.client.revision();
     let refused = world.take(event, link)?;
     let report = report(world, before, number)?;
-    let written = world.server.added(&extents)?;
-    let ended = world.server.ended(&extents)?;
+    let server = &world.server;
+    let written = added_since(world.alloc, &server.recording, &server.noted)?;
+    let ended = ended_since(world.alloc, &server.recording, &server.noted)?;
     Ok(Step {
         refused,
         opened: opened_by(event, refused, next),

@@ -1,6 +1,6 @@
 //! A server, a client and the connection between them, and what each event makes of them.
 
-ghost use Rattle.std.specs.Prelude.{◌≡◌, ◌≢◌, ℕ, List, if◌then◌else◌, option_map};
+ghost use Rattle.std.specs.Prelude.{◌≡◌, ◌≢◌, ℕ, List, if◌then◌else◌, option_and_then, option_map};
 ghost use Rattle.httpedge.specs.Steps as edge;
 ghost use Rattle.wireclient.specs.Reply.{ReplyItem};
 ghost use Rattle.reflector.specs.Client.{Client};
@@ -8,8 +8,8 @@ ghost use Rattle.reflector.specs.InformerViews as informers;
 ghost use Rattle.reflector.specs.Run.{closed};
 ghost use Rattle.world.specs.Serving.{Serves, is_over_in};
 ghost use Rattle.world.specs.Represents.{setup_in};
-ghost use Rattle.recorder.specs.Recorded.{ReportsRefusal};
-ghost use Rattle.world.specs.Stepping.{Refuses, by_hub};
+ghost use Rattle.world.specs.Recording.{ReportsRefusal};
+ghost use Rattle.world.specs.Stepping.{Refuses, by_hub, hub_refusal};
 
 use crate::connection::{ClientConnection, is_by_peer_on, next_of_request, next_piece};
 use crate::event::WorldEvent;
@@ -19,7 +19,7 @@ use crate::refusal::Refusal;
 use crate::server::Server;
 use crate::settings::{Settings, client_of};
 use api_types::Types;
-use httpedge::{Event, HubFault};
+use httpedge::{Event, HubRefusal};
 use indexer::IndexBy;
 use reflector::Informer;
 use std::alloc::Global;
@@ -41,11 +41,12 @@ pub struct World<I: Drop> {
 }
 
 /// A refusal of the hub.
-fn by_hub(fault: Option<HubFault>) -> Option<Refusal>
-    ensures { (s : edge.State) (e : edge.Event) → ReportsRefusal s e fault → Refuses result (option_map by_hub (edge.refusal s e)) }
+fn by_hub(refusal: Option<HubRefusal>) -> Option<Refusal>
+    ensures refuses { (s : edge.State) (e : edge.Event) → ReportsRefusal s e refusal → Refuses result (option_map by_hub (edge.refusal s e)) }
+    ensures same { option_and_then hub_refusal result ≡ refusal }
 {
-    match fault {
-        Some(fault) => Some(Refusal::Hub(fault)),
+    match refusal {
+        Some(why) => Some(Refusal::Hub(why)),
         None => None,
     }
 }
@@ -73,9 +74,10 @@ impl<I: IndexBy> World<I> {
     ghost use Rattle.world_laws.specs.World.{Steps};
     ghost use Rattle.world.specs.FaultViews.{Answers};
     ghost use Rattle.world.specs.Views.{event_seen, settings_seen};
-    ghost use Rattle.world.specs.Represents.{WorldRepresents, settled, setup_in};
+    ghost use Rattle.world.specs.Extents.{AreNotesSince};
+    ghost use Rattle.world.specs.Represents.{NotesLead, WorldRepresents, settled, setup_in};
     ghost use Rattle.httpedge.specs.Connections.{next_id};
-    ghost use Rattle.world.specs.Stepping.{opens_own, refusal_of};
+    ghost use Rattle.world.specs.Stepping.{TellsFault, refusal_of};
     ghost use Rattle.history.specs.History.{last_revision};
     ghost use Rattle.world.specs.Starting.{start_at};
 
@@ -140,8 +142,9 @@ impl<I: IndexBy> World<I> {
 
     fn other(&mut self, event: &Event) -> Result<Option<Refusal>, RunFault>
         ensures happens { (task : Task) (o : Objects) (w : worlds.World) → WorldRepresents (λ b s. I.keys b s) task o self.old w
-            → OnOk result ((v : worlds.World) × worlds.Happens task w (worlds.other (event_of event.now)) v × WorldRepresents (λ b s. I.keys b s) task o self.new v) }
+            → OnOk result ((v : worlds.World) × worlds.Happens task w (worlds.other (event_of event.now)) v × WorldRepresents (λ b s. I.keys b s) task o self.new v × NotesLead self.old w self.new v) }
         ensures refused { (task : Task) (o : Objects) (w : worlds.World) → WorldRepresents (λ b s. I.keys b s) task o self.old w → IfOk result (λ r. Refuses r (refusal_of task w (worlds.other (event_of event.now)))) }
+        ensures fault { IfOk result (TellsFault (worlds.other (event_of event.now))) }
         ensures setup { setup_in self.new.client ≡ setup_in self.old.client }
         ensures link { result ≢ Err RunFault.Link }
     {
@@ -154,7 +157,7 @@ impl<I: IndexBy> World<I> {
 
     fn request(&mut self, bytes: &[u8]) -> Result<Option<Refusal>, RunFault>
         ensures happens { (task : Task) (o : Objects) (w : worlds.World) → WorldRepresents (λ b s. I.keys b s) task o self.old w
-            → OnOk result ((v : worlds.World) × worlds.Happens task w (worlds.request bytes.now) v × WorldRepresents (λ b s. I.keys b s) task o self.new v) }
+            → OnOk result ((v : worlds.World) × worlds.Happens task w (worlds.request bytes.now) v × WorldRepresents (λ b s. I.keys b s) task o self.new v × NotesLead self.old w self.new v) }
         ensures refused { (task : Task) (o : Objects) (w : worlds.World) → WorldRepresents (λ b s. I.keys b s) task o self.old w → IfOk result (λ r. Refuses r (refusal_of task w (worlds.request bytes.now))) }
         ensures setup { setup_in self.new.client ≡ setup_in self.old.client }
         ensures link { result ≢ Err RunFault.Link }
@@ -171,7 +174,7 @@ impl<I: IndexBy> World<I> {
 
     fn send(&mut self) -> Result<Option<Refusal>, RunFault>
         ensures happens { (task : Task) (o : Objects) (w : worlds.World) → WorldRepresents (λ b s. I.keys b s) task o self.old w
-            → OnOk result ((v : worlds.World) × worlds.Happens task w worlds.send v × WorldRepresents (λ b s. I.keys b s) task o self.new v) }
+            → OnOk result ((v : worlds.World) × worlds.Happens task w worlds.send v × WorldRepresents (λ b s. I.keys b s) task o self.new v × NotesLead self.old w self.new v) }
         ensures refused { (task : Task) (o : Objects) (w : worlds.World) → WorldRepresents (λ b s. I.keys b s) task o self.old w → IfOk result (λ r. Refuses r (refusal_of task w worlds.send)) }
         ensures setup { setup_in self.new.client ≡ setup_in self.old.client }
         ensures link { result ≢ Err RunFault.Link }
@@ -195,7 +198,7 @@ impl<I: IndexBy> World<I> {
 
     fn to_server<L: Link>(&mut self, n: usize, link: &mut L) -> Result<Option<Refusal>, RunFault>
         ensures happens { (task : Task) (o : Objects) (w : worlds.World) → WorldRepresents (λ b s. I.keys b s) task o self.old w
-            → OnOk result ((v : worlds.World) × worlds.Happens task w (worlds.to_server n) v × WorldRepresents (λ b s. I.keys b s) task o self.new v) }
+            → OnOk result ((v : worlds.World) × worlds.Happens task w (worlds.to_server n) v × WorldRepresents (λ b s. I.keys b s) task o self.new v × NotesLead self.old w self.new v) }
         ensures refused { (task : Task) (o : Objects) (w : worlds.World) → WorldRepresents (λ b s. I.keys b s) task o self.old w → IfOk result (λ r. Refuses r (refusal_of task w (worlds.to_server n))) }
         ensures setup { setup_in self.new.client ≡ setup_in self.old.client }
         ensures link { L.may_fail ≡ false → result ≢ Err RunFault.Link }
@@ -216,7 +219,7 @@ impl<I: IndexBy> World<I> {
 
     fn to_client<L: Link>(&mut self, n: usize, link: &mut L) -> Result<Option<Refusal>, RunFault>
         ensures happens { (task : Task) (o : Objects) (w : worlds.World) → WorldRepresents (λ b s. I.keys b s) task o self.old w
-            → OnOk result ((v : worlds.World) × worlds.Happens task w (worlds.to_client n) v × WorldRepresents (λ b s. I.keys b s) task o self.new v) }
+            → OnOk result ((v : worlds.World) × worlds.Happens task w (worlds.to_client n) v × WorldRepresents (λ b s. I.keys b s) task o self.new v × NotesLead self.old w self.new v) }
         ensures refused { (task : Task) (o : Objects) (w : worlds.World) → WorldRepresents (λ b s. I.keys b s) task o self.old w → IfOk result (λ r. Refuses r (refusal_of task w (worlds.to_client n))) }
         ensures setup { setup_in self.new.client ≡ setup_in self.old.client }
         ensures link { L.may_fail ≡ false → result ≢ Err RunFault.Link }
@@ -237,7 +240,7 @@ impl<I: IndexBy> World<I> {
 
     fn cut(&mut self) -> Result<Option<Refusal>, RunFault>
         ensures happens { (task : Task) (o : Objects) (w : worlds.World) → WorldRepresents (λ b s. I.keys b s) task o self.old w
-            → OnOk result ((v : worlds.World) × worlds.Happens task w worlds.cut v × WorldRepresents (λ b s. I.keys b s) task o self.new v) }
+            → OnOk result ((v : worlds.World) × worlds.Happens task w worlds.cut v × WorldRepresents (λ b s. I.keys b s) task o self.new v × NotesLead self.old w self.new v) }
         ensures refused { (task : Task) (o : Objects) (w : worlds.World) → WorldRepresents (λ b s. I.keys b s) task o self.old w → IfOk result (λ r. Refuses r (refusal_of task w worlds.cut)) }
         ensures setup { setup_in self.new.client ≡ setup_in self.old.client }
         ensures link { result ≢ Err RunFault.Link }
@@ -253,7 +256,7 @@ impl<I: IndexBy> World<I> {
 
     fn restart(&mut self) -> Result<Option<Refusal>, RunFault>
         ensures happens { (task : Task) (o : Objects) (w : worlds.World) → WorldRepresents (λ b s. I.keys b s) task o self.old w
-            → OnOk result ((v : worlds.World) × worlds.Happens task w worlds.restart v × WorldRepresents (λ b s. I.keys b s) task fin.empty self.new v) }
+            → OnOk result ((v : worlds.World) × worlds.Happens task w worlds.restart v × WorldRepresents (λ b s. I.keys b s) task fin.empty self.new v × NotesLead self.old w self.new v) }
         ensures refused { (task : Task) (o : Objects) (w : worlds.World) → WorldRepresents (λ b s. I.keys b s) task o self.old w → IfOk result (λ r. Refuses r (refusal_of task w worlds.restart)) }
         ensures setup { setup_in self.new.client ≡ setup_in self.old.client }
         ensures link { result ≢ Err RunFault.Link }
@@ -268,7 +271,7 @@ impl<I: IndexBy> World<I> {
 
     fn reconcile(&mut self) -> Result<Option<Refusal>, RunFault>
         ensures happens { (task : Task) (w : worlds.World) → WorldRepresents (λ b s. I.keys b s) task (kept w.client.cache) self.old w
-            → OnOk result ((v : worlds.World) × worlds.Happens task w worlds.reconcile v × WorldRepresents (λ b s. I.keys b s) task (kept w.client.cache) self.new v) }
+            → OnOk result ((v : worlds.World) × worlds.Happens task w worlds.reconcile v × WorldRepresents (λ b s. I.keys b s) task (kept w.client.cache) self.new v × NotesLead self.old w self.new v) }
         ensures refused { (task : Task) (w : worlds.World) → WorldRepresents (λ b s. I.keys b s) task (kept w.client.cache) self.old w → IfOk result (λ r. Refuses r (refusal_of task w worlds.reconcile)) }
         ensures setup { setup_in self.new.client ≡ setup_in self.old.client }
         ensures link { result ≢ Err RunFault.Link }
@@ -293,8 +296,9 @@ impl<I: IndexBy> World<I> {
         link: &mut L,
     ) -> Result<Option<Refusal>, RunFault>
         ensures happens { (task : Task) (w : worlds.World) → WorldRepresents (λ b s. I.keys b s) task (kept w.client.cache) self.old w
-            → OnOk result ((v : worlds.World) × (o : Objects) × worlds.Happens task w (event_seen event.now) v × WorldRepresents (λ b s. I.keys b s) task o self.new v) }
+            → OnOk result ((v : worlds.World) × (o : Objects) × worlds.Happens task w (event_seen event.now) v × WorldRepresents (λ b s. I.keys b s) task o self.new v × NotesLead self.old w self.new v) }
         ensures refused { (task : Task) (w : worlds.World) → WorldRepresents (λ b s. I.keys b s) task (kept w.client.cache) self.old w → IfOk result (λ r. Refuses r (refusal_of task w (event_seen event.now))) }
+        ensures fault { IfOk result (TellsFault (event_seen event.now)) }
         ensures setup { setup_in self.new.client ≡ setup_in self.old.client }
         ensures link { L.may_fail ≡ false → result ≢ Err RunFault.Link }
     {
@@ -313,6 +317,7 @@ impl<I: IndexBy> World<I> {
     /// Counts what the client's notices tell.
     fn settle(&mut self) -> Result<(), RunFault>
         ensures settles { (task : Task) (o : Objects) (w : worlds.World) → WorldRepresents (λ b s. I.keys b s) task o self.old w → OnOk result (WorldRepresents (λ b s. I.keys b s) task (kept w.client.cache) self.new (settled w)) }
+        ensures server { self.new.server ≡ self.old.server }
         ensures setup { setup_in self.new.client ≡ setup_in self.old.client }
         ensures link { result ≢ Err RunFault.Link }
     {
@@ -327,11 +332,13 @@ impl<I: IndexBy> World<I> {
         event: &WorldEvent,
         link: &mut L,
     ) -> Result<Option<Refusal>, RunFault>
-        ensures steps { (task : Task) (w : worlds.World) → WorldRepresents (λ b s. I.keys b s) task (kept w.client.cache) self.old w → OnOk result ((v : worlds.World) × Steps task w (event_seen event.now) v × WorldRepresents (λ b s. I.keys b s) task (kept v.client.cache) self.new v) }
+        ensures steps { (task : Task) (w : worlds.World) → WorldRepresents (λ b s. I.keys b s) task (kept w.client.cache) self.old w → OnOk result ((v : worlds.World) × Steps task w (event_seen event.now) v × WorldRepresents (λ b s. I.keys b s) task (kept v.client.cache) self.new v × AreNotesSince w.hub self.new.server.noted v.hub) }
         ensures refused { (task : Task) (w : worlds.World) → WorldRepresents (λ b s. I.keys b s) task (kept w.client.cache) self.old w → IfOk result (λ r. Refuses r (refusal_of task w (event_seen event.now))) }
+        ensures fault { IfOk result (TellsFault (event_seen event.now)) }
         ensures setup { setup_in self.new.client ≡ setup_in self.old.client }
         ensures link { L.may_fail ≡ false → result ≢ Err RunFault.Link }
     {
+        self.server.begin_notes();
         let refused = self.happen(event, link)?;
         self.settle()?;
         Ok(refused)

@@ -9,7 +9,7 @@ use Rattle.world.proofs.world.World.cut.Goals as goal
 
 pub returns-then-is_none-clause-happens : goal.returns-then-is_none-clause-happens
 returns-then-is_none-clause-happens g c = λ task o w represents.
-    (w, subst (λ own. worlds.Cuts w own w) represents.connection (no_cut w connection_seen c.args.self.now.connection (c.is_none.ensures ∙ ap not c.if-is_none.true)), represents)
+    (w, subst (λ own. worlds.Cuts w own w) represents.connection (no_cut w connection_seen c.args.self.now.connection (c.is_none.ensures ∙ ap not c.if-is_none.true)), represents, λ begin since. since)
 
 pub returns-clause-happens : goal.returns-clause-happens
 returns-clause-happens g c = λ task o w represents.
@@ -30,6 +30,7 @@ returns-clause-happens g c = λ task o w represents.
         label = represents.label;
         place = represents.place;
       },
+      left.3,
     )
 
 pub returns-then-is_none-clause-refused : goal.returns-then-is_none-clause-refused

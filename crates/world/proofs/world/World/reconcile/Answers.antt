@@ -14,12 +14,12 @@ use Rattle.world.proofs.world.World.reconcile.Goals as goal
 pub returns-then-is_none-clause-happens : goal.returns-then-is_none-clause-happens
 returns-then-is_none-clause-happens g c = λ task w represents.
     let k = represents.client in
-    (w, no_counts task w w.client.cache _ c.revision.result (c.revision.ensures w.client k.0 k.1 k.2) (c.is_none.ensures ∙ ap not c.if-is_none.true), represents)
+    (w, no_counts task w w.client.cache _ c.revision.result (c.revision.ensures w.client k.0 k.1 k.2) (c.is_none.ensures ∙ ap not c.if-is_none.true), represents, λ begin since. since)
 
 pub returns-in_default-clause-happens : goal.returns-in_default-clause-happens
 returns-in_default-clause-happens g c = λ task w represents.
     let none = sym c.in_default.is ∙ c.next_id.ensures w.hub represents.hub in
-    (w, subst (λ id. worlds.Reconciles task w w.client.cache id w) none (no_id task w w.client.cache), represents)
+    (w, subst (λ id. worlds.Reconciles task w w.client.cache id w) none (no_id task w w.client.cache), represents, λ begin since. since)
 
 pub returns-clause-happens : goal.returns-clause-happens
 returns-clause-happens g c = λ task w represents.
@@ -41,6 +41,7 @@ returns-clause-happens g c = λ task w represents.
           ∙ ap (λ n. apply_request counts n c.as_str-2.result.now) (c.as_str.ensures.value ∙ ap (λ (p : List ℕ × List ℕ). p.0) represents.place)
           ∙ ap (apply_request counts task.settings.summary.0) (c.as_str-2.ensures.value ∙ ap (λ (p : List ℕ × List ℕ). p.1) represents.place)) comes),
       record { hub = came.4; requested = represents.requested; connection = represents.connection; client = (k.0, k.1, k.2, handed_stays w.client.is_awaiting_reply k.0 w.connection w.hub t more k.3); wanted = represents.wanted; reaches = represents.reaches; few = represents.few; counted = represents.counted; label = represents.label; place = represents.place },
+      came.5,
     )
 
 pub returns-then-is_none-clause-refused : goal.returns-then-is_none-clause-refused

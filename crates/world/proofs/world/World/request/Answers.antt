@@ -9,7 +9,7 @@ use Rattle.world.proofs.world.World.request.Goals as goal
 pub returns-in_default-clause-happens : goal.returns-in_default-clause-happens
 returns-in_default-clause-happens g c = λ task o w represents.
     let none = sym c.in_default.is ∙ c.next_id.ensures w.hub represents.hub in
-    (w, subst (λ o. worlds.Requests w o c.args.bytes.now w) none refl, represents)
+    (w, subst (λ o. worlds.Requests w o c.args.bytes.now w) none refl, represents, λ begin since. since)
 
 pub returns-clause-happens : goal.returns-clause-happens
 returns-clause-happens g c = λ task o w represents.
@@ -26,6 +26,7 @@ returns-clause-happens g c = λ task o w represents.
       record noted { hub = t },
       subst (λ o. worlds.Requests w o c.args.bytes.now (record noted { hub = t })) next comes,
       record { hub = came.4; requested = c.in_ok-push.ensures.items ∙ ap (λ ids. ids ++ id ∷ []) represents.requested; connection = represents.connection; client = (k.0, k.1, k.2, handed_stays w.client.is_awaiting_reply k.0 w.connection w.hub t more k.3); wanted = represents.wanted; reaches = represents.reaches; few = represents.few; counted = represents.counted; label = represents.label; place = represents.place },
+      came.5,
     )
 
 pub returns-in_default-clause-refused : goal.returns-in_default-clause-refused

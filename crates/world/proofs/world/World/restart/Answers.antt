@@ -27,4 +27,5 @@ returns-clause-happens g c = λ task o w represents.
         label = represents.label;
         place = represents.place;
       },
+      left.3,
     )

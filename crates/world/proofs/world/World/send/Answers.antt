@@ -14,7 +14,7 @@ use Rattle.world.proofs.world.World.send.Goals as goal
 pub returns-in_default-clause-happens : goal.returns-in_default-clause-happens
 returns-in_default-clause-happens g c = λ task o w represents.
     let none = sym c.in_default.is ∙ c.next_id.ensures w.hub represents.hub in
-    (w, subst (λ d. worlds.Sends w d (informers.due (client_settings task) w.client) w) none refl, represents)
+    (w, subst (λ d. worlds.Sends w d (informers.due (client_settings task) w.client) w) none refl, represents, λ begin since. since)
 
 pub returns-in_default-2-clause-happens : goal.returns-in_default-2-clause-happens
 returns-in_default-2-clause-happens g c = λ task o w represents.
@@ -27,6 +27,7 @@ returns-in_default-2-clause-happens g c = λ task o w represents.
       w,
       subst (λ d. worlds.Sends w d (informers.due settings w.client) w) next (subst (λ d. worlds.Sends w (Some c.in-Some.id) d w) due refl),
       record { hub = represents.hub; requested = represents.requested; connection = represents.connection; client = (k.0, k.1, subst (λ i. informers.InformerRepresents (λ b s. g.I.IndexBy.keys b s) i w.client k.0 k.1) (sym same) k.2, k.3); wanted = c.next_request.ensures.settings ∙ represents.wanted; reaches = represents.reaches; few = represents.few; counted = represents.counted; label = represents.label; place = represents.place },
+      λ begin since. since,
     )
 
 pub returns-clause-happens : goal.returns-clause-happens
@@ -47,6 +48,7 @@ returns-clause-happens g c = λ task o w represents.
       v,
       subst (λ d. worlds.Sends w d (informers.due settings w.client) v) next (subst (λ d. worlds.Sends w (Some c.in-Some.id) d v) due (alone, opened, went, (came.0, came.1, refl), refl)),
       record { hub = came.2; requested = represents.requested; connection = refl; client = ([], [], c.in_ok-request.ensures.asked w.client k.0 k.1 k.2 waits, handed_if true [] own came.0 (omega arith) refl); wanted = c.next_request.ensures.settings ∙ represents.wanted; reaches = reaches_asked (wanted_by task) o w.client represents.reaches; few = represents.few; counted = represents.counted; label = represents.label; place = represents.place },
+      λ begin since. came.3 begin (left.3 begin since),
     )
 
 pub returns-in_default-clause-refused : goal.returns-in_default-clause-refused

@@ -16,7 +16,7 @@ use Rattle.world.proofs.world.World.to_client.Goals as goal
 pub returns-in_default-clause-happens : goal.returns-in_default-clause-happens
 returns-in_default-clause-happens g c = λ task o w represents.
     let none = sym (ap (option_map connection_seen) c.in_default.is) ∙ represents.connection in
-    (w, subst (λ d. worlds.ToClient (wanted_by task) w c.args.n d w) none refl, represents)
+    (w, subst (λ d. worlds.ToClient (wanted_by task) w c.args.n d w) none refl, represents, λ begin since. since)
 
 pub returns-then-is_empty-clause-happens : goal.returns-then-is_empty-clause-happens
 returns-then-is_empty-clause-happens g c = λ task o w represents.
@@ -29,6 +29,7 @@ returns-then-is_empty-clause-happens g c = λ task o w represents.
       w,
       subst (λ d. worlds.ToClient wanted w n d w) is (subst (λ xs. worlds.Hands wanted w l xs w) (sym none ∙ at) refl),
       record { hub = represents.hub; requested = represents.requested; connection = is; client = represents.client; wanted = represents.wanted; reaches = represents.reaches; few = represents.few; counted = represents.counted; label = represents.label; place = represents.place },
+      λ begin since. since,
     )
 
 pub returns-clause-happens : goal.returns-clause-happens
@@ -76,6 +77,7 @@ returns-clause-happens g c = λ task o w represents.
         label = represents.label;
         place = represents.place;
       },
+      λ begin since. since,
     )
 
 pub returns-in_default-clause-refused : goal.returns-in_default-clause-refused
