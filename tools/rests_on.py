@@ -133,6 +133,11 @@ TIED = (
         "Labels.labels_of",
         "the labels of the content that the text was printed of",
     ),
+    (
+        "line_laws::names_are_of_objects",
+        "Labels.name_of",
+        "the name of the object that the text was printed of",
+    ),
     ("httpedge::pieces", "Runs.Steps", "the same, however bytes were cut"),
     (
         "reflector::follows_the_server",
@@ -365,6 +370,10 @@ def tied_part(by_law: dict[str, set[Name]], of: tuple[str, str]) -> list[str]:
         "|---|---|---|---|",
         *ties(by_law),
         "",
+        "## For types that aren't discovered\n",
+        "Where no type is marked as discovered, as none is that a types file declares (`api_types::files_mark_none`), a reader may skip what is said of the",
+        "mark: `discovery` (`api_request::documents_leave_places`), `Lenient` of `params` (`api_validation::words_are_read`, clause `others`: a query is then",
+        "read word for word), `Fields` of `selector` (`line_laws::label_selectors_ask_labels`), and dry runs (`verbs::dry_runs_change_nothing`, clause `others`).\n",
     ]
 
 

@@ -49,7 +49,7 @@ labels_in_metadata s of v state ms =
     ∙ get_member-put_other (codes "labels") (codes "resourceVersion") (string (decimal v)) (put_entries items ms) (apart (codes "labels") (codes "resourceVersion") refl)
     ∙ labels_beside items ms
 
-metadata_in_object : (api_version kind : List ℕ) (meta base : Members)
+pub metadata_in_object : (api_version kind : List ℕ) (meta base : Members)
     → get_member (codes "metadata") (put (codes "apiVersion") (string api_version) (put (codes "kind") (string kind) (put (codes "metadata") (object meta) base))) ≡ Some (object meta)
 metadata_in_object api_version kind meta base =
     let with_metadata = put (codes "metadata") (object meta) base in

@@ -4,12 +4,14 @@ pub mod LabelTexts
 pub mod LabelsPrinted
 pub mod LabelsRead
 pub mod LabelsAgreed
+pub mod Names
 pub mod Objects
 pub mod Pages
 pub mod Renumbered
 pub mod Said
 pub mod SeenBodies
 pub mod Texts
+pub mod SelectorsAsk
 pub mod Sent
 pub mod Values
 pub mod Waiting

@@ -3,3 +3,4 @@ pub mod Following
 pub mod Listed
 pub mod Labels
 pub mod LabelReaders
+pub mod Names

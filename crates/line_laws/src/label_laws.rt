@@ -1,8 +1,9 @@
-//! Laws of the labels that selectors see, at the server and at the client. Each function does nothing; what it promises
-//! is the law. Labels are read in the crates `lists` and `decoder`.
+//! Laws of what selects an object: the labels that selectors see, at the server and at the client, and the name. Each function
+//! does nothing; what it promises is the law. Labels and names are read in the crates `lists` and `decoder`, selectors in `selector`.
 
 ghost use Rattle.line_laws.specs.Labels.{LabelsAreOfContents};
 ghost use Rattle.line_laws.specs.LabelReaders.{ReadersAgree};
+ghost use Rattle.line_laws.specs.Names.{LabelSelectorsAskLabels, NamesAreOfObjects, NamesSelectObjects};
 
 /// The labels that are read of an object's text are those of the content that the text was printed of.
 pub fn labels_are_of_contents()
@@ -12,4 +13,19 @@ pub fn labels_are_of_contents()
 /// Of a text that a client takes as an object, server and client read the same labels.
 pub fn readers_agree()
     ensures { ReadersAgree }
+{}
+
+/// What the text of a label selector asks, an object's labels alone decide, whatever its name is.
+pub fn label_selectors_ask_labels()
+    ensures { LabelSelectorsAskLabels }
+{}
+
+/// The name that is read of an object's text is the object's.
+pub fn names_are_of_objects()
+    ensures { NamesAreOfObjects }
+{}
+
+/// So `metadata.name=NAME` selects just the objects of that name.
+pub fn names_select_objects()
+    ensures { NamesSelectObjects }
 {}

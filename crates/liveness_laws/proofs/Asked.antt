@@ -2,7 +2,6 @@
 use Rattle.std.proofs.Common.{◌≡◌, ℕ, ◌≤◌, true, false, List, [], ◌∷◌, ◌++◌, All, length, Option, Some, None, codes, refl, sym, ap, subst, ◌∙◌, arith, leb-true}
 use Rattle.std.proofs.lemmas.Bool.{and_parts}
 use Rattle.std.proofs.lemmas.List.Elements.{All-append, All-cons, All-nil, All-weaker}
-use Rattle.std.specs.List.{list_any}
 use Rattle.std.specs.Prelude.{nat_le}
 use Rattle.std.specs.declared.result.Result.TheVariants.{Ok}
 use Rattle.form_urlencoded.specs.Form.{extend_pairs}
@@ -20,24 +19,17 @@ use Rattle.api_validation.specs.Parameters.{read_or_refused}
 use Rattle.wire.specs.Heads.{max_head}
 use Rattle.wire.proofs.Lines.{passes_each}
 use Rattle.requests.specs.Asks.{Asks}
-use Rattle.requests.specs.Bodies.{needs_body}
 use Rattle.requests.specs.Decision.{accepted, and_then, decided_by}
 use Rattle.wireclient.specs.Request.{request}
-use Rattle.wire_laws.specs.Printed.{IsPrinted, IsRequest, asked_without, is_question}
+use Rattle.wire_laws.specs.Printed.{IsPrinted, IsRequest}
 use Rattle.reflector.specs.Faults.{is_page_size}
-use Rattle.reflector.specs.Requests.{list_query, path_of, watch_query}
-use Rattle.liveness_laws.specs.Listable.{list_request, watch_request}
-use Rattle.world_laws.proofs.Queries.{IsVisible, first_is_read, first_pairs, first_query, form_visible, next_query, visible_text, visible_uri, watch_is_read, watch_pairs, watch_query_is}
-use Rattle.world_laws.proofs.Passes.{IsWatchCall}
+use Rattle.reflector.specs.Requests.{list_query, path_of}
+use Rattle.liveness_laws.specs.BothEnds.{RequestsAsk}
+use Rattle.liveness_laws.specs.Listable.{list_request}
+use Rattle.world_laws.proofs.Queries.{IsVisible, first_is_read, first_pairs, first_query, form_visible, next_query, visible_text, visible_uri}
 use Rattle.world_laws.proofs.Routed.{IsPathByte, path_bytes, path_reaches, resource_for, unasked}
 use Rattle.world_laws.specs.ListCalls.{IsListCall}
 use Rattle.world_laws.specs.Tasks.{IsTask, Task, client_settings, wanted_by}
-
--- a request without a body asks what its path and its query lead to (`wire_laws::requests_ask`)
-abbrev pub RequestsAsk : Type 0
-RequestsAsk =
-    (types : List ServedShape) (method path query : List ℕ) → list_any is_question path ≡ false → needs_body method ≡ false → IsPrinted method (path ++ 63 ∷ query) None
-    → Asks types (request method (path ++ 63 ∷ query) None) (asked_without types method path query)
 
 get_is_token : IsToken (codes "GET")
 unfolding is_token_byte
@@ -127,30 +119,6 @@ module _ (ask : RequestsAsk) (types : List ServedShape) (task : Task) (is : IsTa
             unnamed = refl;
             says = ap read_or_refused (query_is_read r task.settings.page k task.settings.selector task.requirements can low is.text is.selector);
             unwatched = refl;
-          };
-          kind = refl;
-          namespace = refl;
-        },
-      )
-
-  -- a watch from a revision
-  pub asks_watch : (r : ℕ) → r ≤ last_revision → length (watch_request task r) ≤ max_head → (call : Call) × Asks types (watch_request task r) (accepted call) × IsWatchCall types task r call
-  asks_watch r come fits =
-      let pairs : Pairs = watch_pairs r task.settings.selector in
-      let query : List ℕ = extend_pairs [] pairs in
-      let same : watch_query (client_settings task) r ≡ query = watch_query_is (client_settings task) r in
-      let bytes : List ℕ → List ℕ = λ q. request (codes "GET") (path_of (wanted_by task) ++ 63 ∷ q) None in (
-        call_with query,
-        subst (λ q. Asks types (bytes q) (accepted (call_with query))) (sym same)
-            (asks_call query (form_visible [] pairs (All-nil IsVisible)) (subst (λ q. length (bytes q) ≤ max_head) same fits)),
-        record {
-          watches = record {
-            served = is.served;
-            gets = refl;
-            unnamed = refl;
-            says = ap read_or_refused (watch_is_read r task.settings.selector task.requirements come is.text is.selector);
-            watches = refl;
-            after = refl;
           };
           kind = refl;
           namespace = refl;

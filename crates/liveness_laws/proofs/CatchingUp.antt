@@ -1,5 +1,5 @@
 -- A client that is to watch from a revision that isn't forgotten: its request opens a watch, whose lines and bookmark bring it to the current revision, where it takes them all.
-use Rattle.std.proofs.Common.{◌≡◌, ◌∙◌, ℕ, zero, suc, ◌+◌, ◌*◌, ◌<◌, ◌≤◌, ◌&&◌, Bool, true, false, cond, List, [], ◌∷◌, length, Option, Some, None, option_map, refl, sym, ap, ap₂, subst, arith, append-nil, le_refl, mul-zero, ne_eqb, true≢false}
+use Rattle.std.proofs.Common.{◌≡◌, ◌∙◌, inl, inr, ℕ, zero, suc, ◌+◌, ◌*◌, ◌<◌, ◌≤◌, ◌&&◌, Bool, true, false, cond, List, [], ◌∷◌, length, Option, Some, None, option_map, refl, sym, ap, ap₂, subst, arith, append-nil, le_refl, mul-zero, ne_eqb, true≢false}
 use Rattle.std.proofs.lemmas.Bool.{eq-eqb}
 use Rattle.std.proofs.lemmas.List.Elements.{All-nil}
 use Rattle.std.specs.FinMap as fin
@@ -26,20 +26,20 @@ use Rattle.httpedge.specs.Watches.{Watch, begun_at}
 use Rattle.reflector.specs.Client.{Cache, Client, Notice, SyncPhase, streaming}
 use Rattle.reflector.specs.FollowsLaws.{IsCacheOf}
 use Rattle.reflector.specs.Run.{receives_all}
-use Rattle.wire.specs.Heads.{max_head}
 use Rattle.wireclient.specs.LineLaws.{HasNoFeed, IsLine}
 use Rattle.wireclient.specs.Reads.{Items}
 use Rattle.wireclient.specs.Reply.{head}
 use Rattle.wire_laws.proofs.Listings.{watch_opens}
 use Rattle.wire_laws.specs.Listings.{watch_after, watch_plan}
-use Rattle.liveness_laws.proofs.Asked.{RequestsAsk, asks_watch}
 use Rattle.liveness_laws.proofs.Exchange.{asking, first_own, sends, sent}
 use Rattle.liveness_laws.proofs.Hub.{highest_after, insert_count, left_by, left_count, next_is}
+use Rattle.liveness_laws.proofs.Joined as joined
 use Rattle.liveness_laws.proofs.Keeping.{Keeps, keeps_replaced}
 use Rattle.liveness_laws.proofs.Leads.{IsNext, IsOf, LeadsBy, by_event, current_or_idle, goes_each, goes_run, leads_to, within, within_by}
 use Rattle.liveness_laws.proofs.Levels.{few_seen}
 use Rattle.liveness_laws.proofs.OnWatch.{IsReading, asked, asks, asks_next, over_in, own_asked, pumps_next, tells_next, ticks_next, told_end}
 use Rattle.liveness_laws.proofs.Reached.{head_kept}
+use Rattle.liveness_laws.proofs.Refused.{leads_first, tells_first, too_long}
 use Rattle.liveness_laws.proofs.Restart.{room_is}
 use Rattle.liveness_laws.proofs.Rounds.{new_is_other, room_for, stays}
 use Rattle.liveness_laws.proofs.Stages.{IsStage, IsToldOf, strictly, telling}
@@ -49,10 +49,11 @@ use Rattle.liveness_laws.specs.Leading.{IsCurrentOrIdle, LeadsTo, WatchesCatchUp
 use Rattle.liveness_laws.specs.Listable.{HasRoom, watch_request}
 use Rattle.world_laws.specs.Moves.{is_at, is_current, next_move}
 use Rattle.liveness_laws.specs.Telling.{Tells, WatchesTell, changes_after, is_telling}
+use Rattle.world_laws.proofs.Asking.{asks_watch}
 use Rattle.world_laws.proofs.Laws.{Laws}
 use Rattle.world_laws.proofs.Mirror.{server_of}
 use Rattle.world_laws.proofs.Moving.{goes_follows}
-use Rattle.world_laws.proofs.Passes.{IsTaskWatch, IsWatchCall, task_watch, watch_values}
+use Rattle.world_laws.proofs.Passes.{AsksFor, IsTaskWatch, IsWatchCall, task_watch, watch_values}
 use Rattle.world_laws.proofs.Sending.{nothing_read}
 use Rattle.world_laws.specs.Tasks.{IsTask, Task, selection, wanted_by, with_shape}
 use Rattle.world_laws.specs.World.{ClientConnection, World, WorldEvent, other, send, to_server}
@@ -62,9 +63,9 @@ wrong e = absurd (true≢false (sym e))
 
 -- ---- its request
 
-module _ (laws : Laws) (ask : RequestsAsk) (task : Task) (s : edge.State) (requested : List ℕ) (now : Cache) (notices : List Notice) (own : Option ClientConnection) (shape : Shape) (is : IsTask s.types (with_shape task shape))
+module _ (laws : Laws) (task : Task) (s : edge.State) (requested : List ℕ) (now : Cache) (notices : List Notice) (own : Option ClientConnection) (shape : Shape) (is : IsTask s.types (with_shape task shape))
     (is_machine : IsMachine s.types s.machine) (begun : 1 ≤ now.revision) (come : now.revision < s.machine.current) (behind : is_at s.machine.current (Some now) ≡ false) (kept : s.machine.compacted ≤ now.revision)
-    (fits : length (watch_request task now.revision) ≤ max_head) (room : HasRoom s.connections 1) where
+    (room : HasRoom s.connections 1) (asked_call : (call : Call) × Asks s.types (watch_request task now.revision) (accepted call) × IsWatchCall s.types (with_shape task shape) now.revision call) where
   abbrev pub before : World
   before = record { hub = s; requested = requested; client = asking (Some now) streaming false notices; connection = own }
 
@@ -106,12 +107,6 @@ module _ (laws : Laws) (ask : RequestsAsk) (task : Task) (s : edge.State) (reque
   reading_first = record { awaits = refl; sync = refl; behind = behind; has = refl; got = put_there left id new_connection }
 
   -- ---- the server opens the watch
-
-  low : s.machine.current ≤ last_revision
-  low = is_machine.whole.high
-
-  asked_call : (call : Call) × Asks s.types (watch_request task now.revision) (accepted call) × IsWatchCall s.types (with_shape task shape) now.revision call
-  asked_call = let top : s.machine.current ≤ last_revision = low in asks_watch ask s.types (with_shape task shape) is now.revision (omega (arith, come, top)) fits
 
   abbrev call : Call
   call = asked_call.0
@@ -307,24 +302,55 @@ begins task w now stands silent streams cached behind =
       behind = apart;
     }
 
-pub catching_up : Laws → RequestsAsk → WatchesCatchUp
-catching_up laws ask types task run_before w earlier now shapes is run silent streams cached behind kept can room =
-    let b = begins task w now (stands_after laws task types run_before w earlier shapes is run) silent streams cached behind in
-    let come : now.revision < w.hub.machine.current = b.come in
-    let Caught : World → Type 0 = λ v. LeadsTo task (suc (length run_before)) v 8 (IsCurrentOrIdle 1 IsFirst v) in
-    subst (λ (c : Client). Caught (record { hub = w.hub; requested = w.requested; client = c; connection = w.connection })) b.same
-    (catches_up laws ask task w.hub w.requested now w.client.notices w.connection b.stands.holds.task_is.0 b.stands.holds.task_is.1 b.stands.holds.machine b.begun b.come b.behind kept
-    (can now.revision (omega (arith, come))) room (suc (length run_before)))
+module _ (laws : Laws) (task : Task) (w : World) (now : Cache) (i : ℕ) (b : Begins task w now) (kept : w.hub.machine.compacted ≤ now.revision) (room : HasRoom w.hub.connections 1) where
+  abbrev task_now : Task
+  task_now = with_shape task b.stands.holds.task_is.0
+
+  abbrev with_client : Client → World
+  with_client c = record { hub = w.hub; requested = w.requested; client = c; connection = w.connection }
+
+  abbrev as_begun : World
+  as_begun = with_client (asking (Some now) streaming false w.client.notices)
+
+  -- its request is too long, or asks a watch
+  abbrev Asked : Type 0
+  Asked = AsksFor w.hub.types (watch_request task now.revision) (IsWatchCall w.hub.types task_now now.revision)
+
+  asked_so : Asked
+  asked_so =
+      let come : now.revision < w.hub.machine.current = b.come in
+      let top : w.hub.machine.current ≤ last_revision = b.stands.holds.machine.whole.high in
+      asks_watch w.hub.types task_now now.revision b.stands.holds.task_is.1 (omega (arith, come, top))
+
+  catches_up_so : LeadsTo task i w 8 (IsCurrentOrIdle 1 IsFirst w)
+  catches_up_so = subst (λ (c : Client). LeadsTo task i (with_client c) 8 (IsCurrentOrIdle 1 IsFirst (with_client c))) b.same (by_asked asked_so)
+    where
+      by_asked : Asked → LeadsTo task i as_begun 8 (IsCurrentOrIdle 1 IsFirst as_begun)
+      by_asked (inl long) =
+          joined.within task i 3 8 as_begun (IsCurrentOrIdle 1 IsFirst as_begun) (omega arith)
+          (leads_first task w.hub w.requested now w.client.notices w.connection 1 i (omega arith) room b.behind (too_long laws task w.hub now long))
+      by_asked (inr asked) =
+          catches_up laws task w.hub w.requested now w.client.notices w.connection b.stands.holds.task_is.0 b.stands.holds.task_is.1 b.stands.holds.machine b.begun b.come b.behind kept room asked i
+
+  tells_so : (most turns : ℕ) → 0 < most → length (changes_after task w.hub.machine now.revision) < turns * most → Tells task i w most (2 * turns + 5) (IsCurrentOrIdle 1 IsFirst w)
+  tells_so most turns some few = subst (λ (c : Client). Tells task i (with_client c) most (2 * turns + 5) (IsCurrentOrIdle 1 IsFirst (with_client c))) b.same (by_asked asked_so)
+    where
+      by_asked : Asked → Tells task i as_begun most (2 * turns + 5) (IsCurrentOrIdle 1 IsFirst as_begun)
+      by_asked (inl long) =
+          tells_first task w.hub w.requested now w.client.notices w.connection 1 i (omega arith) room b.behind (too_long laws task w.hub now long) most (2 * turns + 5) (omega arith)
+      by_asked (inr asked) =
+          tells_all laws task w.hub w.requested now w.client.notices w.connection b.stands.holds.task_is.0 b.stands.holds.task_is.1 b.stands.holds.machine b.begun b.come b.behind kept room asked most turns i some few
+
+pub catching_up : Laws → WatchesCatchUp
+catching_up laws types task run_before w earlier now shapes is run silent streams cached behind kept room =
+    catches_up_so laws task w now (suc (length run_before)) (begins task w now (stands_after laws task types run_before w earlier shapes is run) silent streams cached behind) kept room
 
 -- where some lines fit there is room for one
 some_lines : (most turns n : ℕ) → n < turns * most → 0 < most
 some_lines zero turns n few = let none : turns * 0 ≡ 0 = mul-zero turns in absurd (omega (arith, few, none))
 some_lines (suc most) turns n few = omega arith
 
-pub telling_all : Laws → RequestsAsk → WatchesTell
-telling_all laws ask types task run_before w earlier now most turns shapes is run silent streams cached behind kept few fits room =
-    let b = begins task w now (stands_after laws task types run_before w earlier shapes is run) silent streams cached behind in
-    let Told : World → Type 0 = λ v. Tells task (suc (length run_before)) v most (2 * turns + 5) (IsCurrentOrIdle 1 IsFirst v) in
-    subst (λ (c : Client). Told (record { hub = w.hub; requested = w.requested; client = c; connection = w.connection })) b.same
-    (tells_all laws ask task w.hub w.requested now w.client.notices w.connection b.stands.holds.task_is.0 b.stands.holds.task_is.1 b.stands.holds.machine b.begun b.come b.behind kept fits room most turns
-    (suc (length run_before)) (some_lines most turns (length (changes_after task w.hub.machine now.revision)) few) few)
+pub telling_all : Laws → WatchesTell
+telling_all laws types task run_before w earlier now most turns shapes is run silent streams cached behind kept few room =
+    tells_so laws task w now (suc (length run_before)) (begins task w now (stands_after laws task types run_before w earlier shapes is run) silent streams cached behind) kept room most turns
+    (some_lines most turns (length (changes_after task w.hub.machine now.revision)) few) few

@@ -1,5 +1,5 @@
 -- A client in the middle of a list that is past: it is cut, and asks for the first page of the one that stands now.
-use Rattle.std.proofs.Common.{◌≡◌, ◌∙◌, ℕ, suc, ◌+◌, ◌<◌, ◌≤◌, ◌==◌, not, Bool, true, false, cond, List, [], ◌∷◌, ◌++◌, length, Option, Some, None, refl, sym, ap, subst, arith}
+use Rattle.std.proofs.Common.{◌≡◌, ◌∙◌, inr, ℕ, suc, ◌+◌, ◌<◌, ◌≤◌, ◌==◌, not, Bool, true, false, cond, List, [], ◌∷◌, ◌++◌, length, Option, Some, None, refl, sym, ap, subst, arith}
 use Rattle.std.specs.FinMap as fin
 use Rattle.indexer.specs.Objects.{Stored}
 use Rattle.httpedge.proofs.Connected.{put_again, put_there}
@@ -8,10 +8,11 @@ use Rattle.httpedge.specs.Steps as edge
 use Rattle.liveness_laws.proofs.Connected.{awaits_connected}
 use Rattle.liveness_laws.proofs.Exchange.{asking, leaves_so, sends, sent, unreported}
 use Rattle.liveness_laws.proofs.Hub.{closed_count, gone_by, highest_after, left_by, left_count, left_elsewhere, next_is}
-use Rattle.liveness_laws.proofs.PageAnswers.{Laws}
-use Rattle.liveness_laws.proofs.Reaching.{IsAfterRun, Lasts, after_run, ready}
+use Rattle.liveness_laws.proofs.Reaching.{IsAfterRun, after_run, ready}
 use Rattle.liveness_laws.proofs.Restart.{left_highest, revision_comes}
 use Rattle.liveness_laws.proofs.Rounds.{left_stays, new_is_other, stays}
+use Rattle.liveness_laws.specs.BothEnds.{Lasts, PagesAreAnswered}
+use Rattle.liveness_laws.specs.Leading.{IsCurrentOrIdle, LeadsTo}
 use Rattle.liveness_laws.specs.Listable.{FitsIn, HasRoom, IsListable}
 use Rattle.world_laws.specs.Moves.{Pursues, is_at, move_on, next_move}
 use Rattle.liveness_laws.specs.Progress.{ComesAnew, PastListsAreGivenUp, RevisionComes}
@@ -42,9 +43,25 @@ module _ (task : Task) (s : edge.State) (requested : List ℕ) (cache : Option C
   pub cut_pursues : (i : ℕ) → is_at s.machine.current cache ≡ false → (revision == s.machine.current) ≡ false → Pursues task i listing (cut ∷ []) anew []
   cut_pursues i behind past = (anew, [], cut_is_next behind past, cuts, (refl, refl), sym (ap (λ (l : List Report). l ++ []) (unreported i s.machine cache)))
 
+  -- and the client asks for the first page next
+  pub cut_leads : (i : ℕ) → is_at s.machine.current cache ≡ false → (revision == s.machine.current) ≡ false → LeadsTo task i listing 1 (IsCurrentOrIdle 0 (λ phase. phase ≡ first) listing)
+  cut_leads i behind past =
+      let high : highest (fin.keys (left_by s.connections (Some own))) ≤ highest (fin.keys s.connections) = left_highest s.connections listing in
+      let few : open_count (left_by s.connections (Some own)) ≤ open_count s.connections = left_count s.connections (Some own) in
+      record {
+        moves = cut ∷ [];
+        end = anew;
+        reports = [];
+        pursues = cut_pursues i behind past;
+        bound = omega arith;
+        server = (refl, refl, refl);
+        others = λ q c got isnt. (0, left_stays task s s.connections (Some own) q isnt ∙ got);
+        goal = inr (record { silent = refl; ids = omega (arith, high); room = omega (arith, few); others = λ q c got isnt. refl }, refl);
+      }
+
 -- ---- the list that comes behind it
 
-module _ (laws : Laws) (task : Task) (s : edge.State) (requested : List ℕ) (cache : Option Cache) (after : (c : Connections) → IsAfterRun task (record { hub = edge.with_connections s c; requested = requested; client = asking cache first false []; connection = None }))
+module _ (laws : PagesAreAnswered) (task : Task) (s : edge.State) (requested : List ℕ) (cache : Option Cache) (after : (c : Connections) → IsAfterRun task (record { hub = edge.with_connections s c; requested = requested; client = asking cache first false []; connection = None }))
     (pages : ℕ) (behind : is_at s.machine.current cache ≡ false) (held : FitsIn task s.machine pages) (listable : IsListable task s.machine) where
   abbrev from : Connections → World
   from c = record { hub = edge.with_connections s c; requested = requested; client = asking cache first false []; connection = None }
@@ -54,7 +71,7 @@ module _ (laws : Laws) (task : Task) (s : edge.State) (requested : List ℕ) (ca
 
 -- ---- both
 
-module _ (laws : Laws) (task : Task) (w : World) (revision : ℕ) (token : List ℕ) (paged : List Stored) (pages i : ℕ) (after : IsAfterRun task w) (old : w.client.sync ≡ next revision token paged)
+module _ (laws : PagesAreAnswered) (task : Task) (w : World) (revision : ℕ) (token : List ℕ) (paged : List Stored) (pages i : ℕ) (after : IsAfterRun task w) (old : w.client.sync ≡ next revision token paged)
     (past : (revision == w.hub.machine.current) ≡ false) (behind : is_at w.hub.machine.current w.client.cache ≡ false)
     (held : FitsIn task w.hub.machine pages) (listable : IsListable task w.hub.machine) (room : HasRoom w.hub.connections (suc pages)) where
   abbrev s : edge.State
@@ -177,6 +194,6 @@ module _ (laws : Laws) (task : Task) (w : World) (revision : ℕ) (token : List 
       go : (awaits : Bool) → w.client.is_awaiting_reply ≡ awaits → Given (with_reply w.client.is_awaiting_reply w.connection)
       go awaits is = subst (λ (b : Bool). Given (with_reply b w.connection)) (sym is) (by_own awaits is)
 
-pub lists_given_up : Laws → Lasts → PastListsAreGivenUp
+pub lists_given_up : PagesAreAnswered → Lasts → PastListsAreGivenUp
 lists_given_up laws lasts types task before w earlier pages revision token paged shapes is run old past behind held listable room =
     given_up laws task w revision token paged pages (suc (length before)) (after_run lasts types task before w earlier shapes is run) old past behind held listable room (awaits_connected types task before w earlier run)

@@ -9,15 +9,15 @@ use Rattle.reflector.specs.Client.{Client, SyncPhase, next}
 use Rattle.reflector.specs.FollowsLaws.{Follows, IsPart, IsSyncSound}
 use Rattle.liveness_laws.proofs.AfterRun.{IsKnown, known_after}
 use Rattle.liveness_laws.proofs.Exchange.{asking}
-use Rattle.liveness_laws.proofs.PageAnswers.{Laws}
 use Rattle.liveness_laws.proofs.Reaching.{ready}
 use Rattle.liveness_laws.proofs.Restart.{IsReady, room_is}
 use Rattle.liveness_laws.proofs.Rounds.{Entries, IsPaging, list_comes, room_for}
+use Rattle.liveness_laws.specs.BothEnds.{PagesAreAnswered}
 use Rattle.liveness_laws.specs.Leading.{ListsGoOn}
 use Rattle.liveness_laws.specs.Listable.{listed_now}
 use Rattle.world_laws.specs.Moves.{is_at}
 use Rattle.liveness_laws.specs.Progress.{RevisionComes}
-use Rattle.world_laws.proofs.Laws as world_laws
+use Rattle.world_laws.proofs.Laws.{Laws}
 use Rattle.world_laws.proofs.Mirror.{server_of}
 use Rattle.world_laws.proofs.Mirrored.{AreRead}
 use Rattle.world_laws.proofs.Parts.{KeepsPaged, part_is_prefix}
@@ -93,7 +93,7 @@ module _ (task : Task) (w : World) (known : IsKnown task w) (revision : ℕ) (to
       subst (λ (r : ℕ). KeepsPaged (wanted_by task) (selected_at task w.hub.machine r) r paged token) same
       (part_is_prefix task w.hub.machine task.settings.kind revision read paged token (part silent asks))
 
-pub lists_go_on : Laws → world_laws.Laws → ListsGoOn
+pub lists_go_on : PagesAreAnswered → Laws → ListsGoOn
 lists_go_on laws facts types task before w earlier pages revision token paged shapes is run silent asks same behind held listable room =
     let known = known_after facts task types before w earlier shapes is run in
     list_goes_on task w (suc (length before)) pages token paged

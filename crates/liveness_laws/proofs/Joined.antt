@@ -6,13 +6,17 @@ use Rattle.httpedge.specs.Connections.{Connection}
 use Rattle.httpedge.specs.Steps.{State, with_turn}
 use Rattle.httpedge.specs.Watches.{ticked}
 use Rattle.liveness_laws.proofs.Rounds.{number_after, pursues_then}
-use Rattle.liveness_laws.specs.Leading.{IsThere, LeadsTo, OthersRemain, OthersTick, ticked_times}
+use Rattle.liveness_laws.specs.Leading.{LeadsTo, OthersRemain, OthersTick, ticked_times}
 use Rattle.world_laws.specs.Moves.{Pursues, is_at, is_current}
 use Rattle.liveness_laws.specs.Progress.{ComesAnew, RevisionComes}
 use Rattle.reflector.specs.Client.{Cache}
-use Rattle.world_laws.specs.Reports.{Report, Runs, reports_between}
+use Rattle.world_laws.specs.Reports.{Report, Runs, reports_after, reports_between}
 use Rattle.world_laws.specs.Tasks.{Task}
 use Rattle.world_laws.specs.World.{World, WorldEvent}
+
+-- the client has the machine's revision
+abbrev pub IsThere : World → Type 0
+IsThere v = (is_current v ≡ true)
 
 -- ---- events in turn
 
@@ -41,6 +45,29 @@ ticks_join s t n (suc m) c types tick =
       suc rest.0,
       ap₂ (λ (l : List ServedShape) (ms : ℕ). with_turn (ticked l ms) (ticked_times t m (ticked_times s n c))) types tick ∙ ap (with_turn (ticked s.types s.last_tick)) rest.1,
     )
+
+-- ---- by another number
+
+-- the same moves, numbered from another event on
+renumbered : (task : Task) (i j : ℕ) (w : World) (es : List WorldEvent) (v : World) (reports : List Report) → Pursues task i w es v reports → (others : List Report) × Pursues task j w es v others
+renumbered task i j w [] v reports (same, none) = ([], (same, refl))
+renumbered task i j w (e ∷ es) v reports (mid, others, is_next, steps, rest, are) =
+    let later = renumbered task (suc i) (suc j) mid es v others rest in
+    (reports_after j w mid ++ later.0, (mid, later.0, is_next, steps, later.1, refl))
+
+pub from_number : (task : Task) (i j most : ℕ) (w : World) (Goal : World → Type 0) → LeadsTo task i w most Goal → LeadsTo task j w most Goal
+from_number task i j most w Goal leads =
+    let numbered = renumbered task i j w leads.moves leads.end leads.reports leads.pursues in
+    record {
+      moves = leads.moves;
+      end = leads.end;
+      reports = numbered.0;
+      pursues = numbered.1;
+      bound = leads.bound;
+      server = leads.server;
+      others = leads.others;
+      goal = leads.goal;
+    }
 
 -- ---- moves behind moves
 

@@ -173,12 +173,14 @@ few_in turn (e ∷ es) =
 entries_each : (f : ℕ → Connection → Connection) (all : Connections) → fin.entries (each f all) ≡ changed f (fin.entries all)
 entries_each f all = fin.entries-from_sorted nat_cmp (changed f (fin.entries all)) (subst T (sym (sorted_same f (fin.entries all))) (fin.entries_sorted all))
 
+pub each_highest : (f : ℕ → Connection → Connection) (all : Connections) → highest (fin.keys (each f all)) ≡ highest (fin.keys all)
+each_highest f all = ap (λ (es : Entries). highest (ids es)) (entries_each f all) ∙ ap highest (same_ids f (fin.entries all))
+
 pub keeps_ticked : (w : World) (client : Client) → Keeps w (record { hub = with_tick w.hub w.hub.last_tick (each (λ id c. with_turn (ticked w.hub.types w.hub.last_tick) c) w.hub.connections); requested = w.requested; client = client; connection = w.connection }) 0
 keeps_ticked w client =
     let turn : Watch → Turn = ticked w.hub.types w.hub.last_tick in
     let f : ℕ → Connection → Connection = λ id c. with_turn turn c in
-    let ids_are : highest (fin.keys (each f w.hub.connections)) ≡ highest (fin.keys w.hub.connections) =
-    ap (λ (es : Entries). highest (ids es)) (entries_each f w.hub.connections) ∙ ap highest (same_ids f (fin.entries w.hub.connections)) in
+    let ids_are : highest (fin.keys (each f w.hub.connections)) ≡ highest (fin.keys w.hub.connections) = each_highest f w.hub.connections in
     let count : open_count (each f w.hub.connections) ≡ opens_in (changed f (fin.entries w.hub.connections)) = ap opens_in (entries_each f w.hub.connections) in
     let few : opens_in (changed f (fin.entries w.hub.connections)) ≤ open_count w.hub.connections = few_in turn (fin.entries w.hub.connections) in
     record {

@@ -7,7 +7,7 @@ use Rattle.lists.specs.Body.{list_text}
 use Rattle.lists.specs.Lists.{page_of}
 use Rattle.lists.specs.Revision.{exactly, revision_by, revision_of}
 use Rattle.lists.specs.declared.refusal.Refusal.TheVariants.{TooLarge}
-use Rattle.api_request.specs.Calls.{Answer, Call, Denied, Plan}
+use Rattle.api_request.specs.Calls.{Answer, Call, Plan}
 use Rattle.api_request.specs.Reasons.{code_of}
 use Rattle.verbs.specs.Machine as machines
 use Rattle.verbs.specs.Machine.{IsMachine}
@@ -31,7 +31,7 @@ use Rattle.wire_laws.proofs.Written.{status_is}
 use Rattle.wire_laws.specs.Listings.{listed_by, page_plan}
 use Rattle.liveness_laws.specs.Leading.{IsListPhase}
 use Rattle.world_laws.proofs.Asking.{asks_first, asks_next}
-use Rattle.world_laws.proofs.Laws.{IsDenial, Laws}
+use Rattle.world_laws.proofs.Laws.{Laws}
 use Rattle.world_laws.proofs.Mirror.{server_of}
 use Rattle.world_laws.proofs.Passes.{AsksFor, IsListCall, IsNextCall, request_with}
 use Rattle.world_laws.specs.ListCalls.{page_values}
@@ -48,28 +48,25 @@ pub record IsRepliedTo (s : edge.State) (c : Connection) (bytes : List ℕ) : Ty
   pub items : List ReplyItem
   pub reads : Items (b ∷ bs) items
 
+-- where its head is too long the reply says so
+abbrev pub denied : Laws → (s : edge.State) (c : Connection) (bytes : List ℕ) → Asks s.types bytes (refuse head_too_large) → IsRepliedTo s c bytes
+denied laws s c bytes too_long = record {
+  decided = refuse head_too_large;
+  asks = too_long;
+  b = 72;
+  bs = drop 1 (refusal_reply (as_denied head_too_large));
+  answers = refl;
+  still = refl;
+  items = head (code_of (as_denied head_too_large).reason) ∷ (laws.asked s.types bytes (as_denied head_too_large) too_long).0;
+  reads = (laws.asked s.types bytes (as_denied head_too_large) too_long).1;
+}
+
 module _ (laws : Laws) (task : Task) (s : edge.State) (still_is : IsStillTask s.types task) (is_machine : IsMachine s.types s.machine) (c : Connection) (bytes : List ℕ) where
   abbrev task_now : Task
   task_now = with_shape task still_is.0
 
   abbrev current : ℕ
   current = s.machine.current
-
-  -- the head was too long
-  denied : Asks s.types bytes (refuse head_too_large) → IsRepliedTo s c bytes
-  denied too_long =
-      let d : Denied = as_denied head_too_large in
-      let denial : IsDenial d = laws.asked s.types bytes d too_long in
-      record {
-        decided = refuse head_too_large;
-        asks = too_long;
-        b = 72;
-        bs = drop 1 (refusal_reply d);
-        answers = refl;
-        still = refl;
-        items = head (code_of d.reason) ∷ denial.0;
-        reads = denial.1;
-      }
 
   module _ (call : Call) (asks : Asks s.types bytes (accepted call)) (token : Option Token) (lists : IsListCall s.types task_now token call)
       (at : revision_of current s.machine.compacted (page_values task_now token) ≡ Ok current) where
@@ -97,7 +94,7 @@ module _ (laws : Laws) (task : Task) (s : edge.State) (still_is : IsStillTask s.
         }
 
   by_call : (IsSuch : Call → Type 0) → AsksFor s.types bytes IsSuch → ((call : Call) → Asks s.types bytes (accepted call) → IsSuch call → IsRepliedTo s c bytes) → IsRepliedTo s c bytes
-  by_call IsSuch (inl too_long) lists = denied too_long
+  by_call IsSuch (inl too_long) lists = denied laws s c bytes too_long
   by_call IsSuch (inr (call, asks, such)) lists = lists call asks such
 
   -- a client that asks for a page of it

@@ -1,16 +1,14 @@
 -- What answers the client's request for a page of the list that stands now.
-use Rattle.std.proofs.Common.{◌≡◌, ℕ, ◌<◌, ◌≤◌, min, Bool, true, cond, List, [], ◌∷◌, drop, length, Option, Some, None, option_map, Ok, Err, IsUtf8, refl, sym, ap, ap₂, subst, ◌∙◌, arith, le-leb, le_refl, ne_eqb, leb-true, zero-le}
+use Rattle.std.proofs.Common.{◌≡◌, ℕ, ◌≤◌, min, Bool, true, cond, List, [], ◌∷◌, drop, length, Option, Some, None, option_map, Ok, Err, IsUtf8, refl, sym, ap, ap₂, subst, ◌∙◌, arith, le-leb, le_refl, ne_eqb, leb-true, zero-le}
 use Rattle.std.proofs.lemmas.Bool.{and_parts, le-ltb}
 use Rattle.std.proofs.lemmas.Str.{is_utf8-from_IsUtf8}
 use Rattle.std.specs.FinMap as fin
 use Rattle.std.specs.List.{AllByRecursion}
-use Rattle.std.specs.Prelude.{◌^◌, nat_le}
-use Rattle.http.specs.StatusCode.{IsStatusCode}
+use Rattle.std.specs.Prelude.{nat_le}
 use Rattle.schema.specs.Shape.{Shape}
-use Rattle.api_types.specs.TypesFile.{ServedShape}
-use Rattle.history.specs.History.{History, Key, state_at}
+use Rattle.history.specs.History.{Key, state_at}
 use Rattle.history.specs.Seen.{left_after, limited, seen_page}
-use Rattle.params.specs.Values.{Token, Values}
+use Rattle.params.specs.Values.{Token}
 use Rattle.lists.specs.Body.{Collection, continued_at, list_text}
 use Rattle.lists.specs.Lists.{key_after, max_page, page_limit, page_of}
 use Rattle.lists.specs.Revision.{exactly, revision_by, revision_of}
@@ -19,7 +17,7 @@ use Rattle.lists.specs.declared.refusal.Refusal.TheVariants.{TooLarge}
 use Rattle.decoder.specs.declared.malformed.Malformed.TheVariants.{Json}
 use Rattle.line_laws.specs.Listed.{IsReadAsPage, page_with}
 use Rattle.api_request.specs.Calls.{Call, Plan}
-use Rattle.verbs.specs.Machine.{AreUnicode, IsMachine, IsNamed, after}
+use Rattle.verbs.specs.Machine.{IsMachine, IsNamed, after}
 use Rattle.verbs.specs.Step.{planned}
 use Rattle.requests.specs.Asks.{Asks}
 use Rattle.requests.specs.Decision.{accepted}
@@ -28,12 +26,10 @@ use Rattle.httpedge.specs.Connections.{new_connection}
 use Rattle.httpedge.specs.Steps as edge
 use Rattle.wire.specs.Heads.{max_head}
 use Rattle.wireclient.specs.Reads.{Items, max_body}
-use Rattle.wireclient.specs.Reply.{end, head, whole}
-use Rattle.wire_laws.specs.Listings.{IsListing, listed_by, page_plan}
-use Rattle.wire_laws.specs.Printed.{IsAllowed}
-use Rattle.wire_laws.specs.Replied.{reply_sent}
-use Rattle.liveness_laws.proofs.Asked.{RequestsAsk, asks_first, asks_next, page_is_low}
+use Rattle.wire_laws.specs.Listings.{listed_by, page_plan}
+use Rattle.liveness_laws.proofs.Asked.{asks_first, asks_next, page_is_low}
 use Rattle.liveness_laws.proofs.Rounds.{Entries, IsBefore, PageComes}
+use Rattle.liveness_laws.specs.BothEnds.{PagesAreAnswered}
 use Rattle.liveness_laws.specs.Listable.{IsListable, collection, list_request, listed_now, page_now}
 use Rattle.reflector.specs.Faults.{is_page_size}
 use Rattle.world_laws.proofs.Mirrored.{AllRead, each_read}
@@ -41,24 +37,6 @@ use Rattle.world_laws.proofs.Parts.{all_first, last_has}
 use Rattle.world_laws.proofs.TaskObjects.{named_at, selected_read}
 use Rattle.world_laws.specs.ListCalls.{IsListCall, IsReadAsPageIfUtf8, page_values}
 use Rattle.world_laws.specs.Tasks.{IsTask, Task, selection, wanted_by, with_shape}
-
--- what the crates below say of lists, as the proofs here use it
-pub record Laws : Type 0 where
-  pub asks : RequestsAsk
-  pub planned_so : (types : List ServedShape) (m : History) (call : Call) (t : ServedShape) (values : Values) (revision : ℕ) → IsListing types call t values
-      → revision_of m.current m.compacted values ≡ Ok revision
-      → planned types m call ≡ page_plan (list_text (listed_by t call) revision (page_of (listed_by t call) values (state_at m.changes revision)))
-  pub replies : (code : ℕ) (allow : Option (List ℕ)) (body : List ℕ) → IsStatusCode code → IsAllowed allow → length body < 2 ^ 64 → Items (reply code allow body) (reply_sent code body)
-  pub short : (code : ℕ) (body : List ℕ) → length body ≤ max_body → reply_sent code body ≡ head code ∷ whole body ∷ end ∷ []
-  pub first : (types : List ServedShape) (task : Task) (machine : History) (call : Call) → IsTask types task → IsMachine types machine → IsListCall types task None call
-      → IsReadAsPageIfUtf8 (wanted_by task) (planned types machine call).answer.body machine.current
-      (seen_page (selection task) None (page_limit task.settings.page) (state_at machine.changes machine.current))
-  pub next : (types : List ServedShape) (task : Task) (machine : History) (revision : ℕ) (k : Key) (call : Call) → IsTask types task → IsMachine types machine
-      → IsListCall types task (Some (token_after revision k)) call → k.kind ≡ task.settings.kind → machine.compacted ≤ revision → revision ≤ machine.current
-      → IsReadAsPageIfUtf8 (wanted_by task) (planned types machine call).answer.body revision
-      (seen_page (selection task) (Some k) (page_limit task.settings.page) (state_at machine.changes revision))
-  pub texts : (types : List ServedShape) (task : Task) (machine : History) (token : Option Token) (revision : ℕ) (call : Call) → IsTask types task → IsMachine types machine → IsListCall types task token call
-      → revision_of machine.current machine.compacted (page_values task token) ≡ Ok revision → AreUnicode machine.changes → IsUtf8 (planned types machine call).answer.body
 
 -- a page has as many objects as were asked for
 limit_is : (size : ℕ) → is_page_size size ≡ true → page_limit size ≡ Some size
@@ -72,7 +50,7 @@ limit_is size is =
 same_key : (kind r : ℕ) (k : Key) → k.kind ≡ kind → key_after kind (token_after r k) ≡ k
 same_key kind r k same = let f : ℕ → Key = λ n. record { kind = n; namespace = k.namespace; name = k.name } in ap f (sym same)
 
-module _ (laws : Laws) (task : Task) (h : edge.State) (shape : Shape) (is : IsTask h.types (with_shape task shape)) (machine_is : IsMachine h.types h.machine) (listable : IsListable task h.machine) where
+module _ (laws : PagesAreAnswered) (task : Task) (h : edge.State) (shape : Shape) (is : IsTask h.types (with_shape task shape)) (machine_is : IsMachine h.types h.machine) (listable : IsListable task h.machine) where
   abbrev current : ℕ
   current = h.machine.current
 

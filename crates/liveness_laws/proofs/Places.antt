@@ -1,22 +1,22 @@
 -- How many connections of others are open: moves of the schedule make these no more, since what the client opens takes the place of what it leaves.
-use Rattle.std.proofs.Common.{◌≡◌, ◌∙◌, ℕ, suc, ◌+◌, ◌≤◌, nat_lt, Bool, true, false, cond, T, List, [], ◌∷◌, ◌++◌, drop, length, take, Option, Some, None, option_map, refl, sym, ap, subst, arith}
+use Rattle.std.proofs.Common.{◌≡◌, ◌≢◌, ◌∙◌, ℕ, suc, ◌+◌, ◌≤◌, Bool, true, false, cond, T, List, [], ◌∷◌, ◌++◌, drop, length, take, Option, Some, None, option_map, refl, sym, ap, subst, arith, true≢false}
 use Rattle.std.specs.Cmp.{nat_cmp_total}
 use Rattle.std.specs.FinMap as fin
 use Rattle.std.specs.FinMap.Entries as entries
 use Rattle.std.specs.Ordering.{eq_by_cmp, is_eq, nat_cmp}
-use Rattle.std.specs.Prelude.{unwrap_or}
 use Rattle.std.specs.declared.cmp.Ordering.{Ordering}
 use Rattle.std.specs.declared.cmp.Ordering.TheVariants.{Less, Equal, Greater}
 use Rattle.requests.specs.Asks.{CallDecision}
-use Rattle.watchline.specs.Watches.{is_bookmark_due}
 use Rattle.httpedge.proofs.Connected.{Entries, changed, got_each, hidden, itself, one_if, opens_first, opens_in, put, put_by, sorted_same, tied_same}
 use Rattle.httpedge.specs.Connections.{Connection, Connections, Phase, each, ended, gone, has_ended, is_open, next_id, open_count, waiting, watching, with_phase}
 use Rattle.httpedge.specs.Runs as runs
 use Rattle.httpedge.specs.Steps.{Refusal, State, after_turn, applied_event, by_connection, comes, connection_after, goes, opening, opens, phase_after, pumps, received_by, refusal, ticks, unless_refused, with_connection, with_connections, with_tick, with_turn}
 use Rattle.httpedge.specs.Watches.{Turn, Watch, pumped, ticked}
 use Rattle.decoder.specs.Wanted.{Wanted}
-use Rattle.liveness_laws.proofs.Hub.{closed_count, gone_by, goes_so, left_by}
-use Rattle.world_laws.specs.Moves.{Pursues, is_current, is_old, move_by, move_on, next_move, wait_by, wait_on}
+use Rattle.liveness_laws.proofs.Hub.{closed_count, gone_by, goes_so, insert_count, left_by}
+use Rattle.liveness_laws.proofs.NextMoves.{OnOwn, next_holds}
+use Rattle.liveness_laws.specs.Listable.{others_of}
+use Rattle.world_laws.specs.Moves.{Pursues, next_move}
 use Rattle.reflector.specs.InformerViews.{due}
 use Rattle.reflector.specs.Run.{closed}
 use Rattle.world_laws.specs.Reports.{Report}
@@ -49,6 +49,30 @@ absent all id none = fin.same_map nat_cmp_total fin.nat_cmp-IsAntisymmetric _ _ 
     go : (q : ℕ) (b : Bool) → (b ≡ true → q ≡ id) → cond b None (fin.get all q) ≡ fin.get all q
     go q true same = sym (ap (fin.get all) (same refl) ∙ none)
     go q false same = refl
+
+both_gone : (a b : Bool) (o : Option Connection) → cond a None (cond b None o) ≡ cond b None (cond a None o)
+both_gone true true o = refl
+both_gone true false o = refl
+both_gone false true o = refl
+both_gone false false o = refl
+
+remove_both : (all : Connections) (id k : ℕ) → fin.remove (fin.remove all id) k ≡ fin.remove (fin.remove all k) id
+remove_both all id k = fin.same_map nat_cmp_total fin.nat_cmp-IsAntisymmetric _ _ (λ q.
+    fin.get-remove nat_cmp_total (fin.remove all id) k q ∙ ap (cond (eq_by_cmp nat_cmp q k) None) (fin.get-remove nat_cmp_total all id q)
+    ∙ both_gone (eq_by_cmp nat_cmp q k) (eq_by_cmp nat_cmp q id) (fin.get all q)
+    ∙ sym (ap (cond (eq_by_cmp nat_cmp q id) None) (fin.get-remove nat_cmp_total all k q)) ∙ sym (fin.get-remove nat_cmp_total (fin.remove all k) id q))
+
+one_at_most : (a b : Bool) → (a ≡ true → b ≡ true → ⊥) → (o p : Option Connection) → cond a None (cond b o p) ≡ cond b o (cond a None p)
+one_at_most true true apart o p = absurd (apart refl refl)
+one_at_most true false apart o p = refl
+one_at_most false true apart o p = refl
+one_at_most false false apart o p = refl
+
+remove_put : (all : Connections) (id k : ℕ) (c : Connection) → k ≢ id → fin.remove (fin.insert all id c) k ≡ fin.insert (fin.remove all k) id c
+remove_put all id k c apart = fin.same_map nat_cmp_total fin.nat_cmp-IsAntisymmetric _ _ (λ q.
+    fin.get-remove nat_cmp_total (fin.insert all id c) k q ∙ ap (cond (eq_by_cmp nat_cmp q k) None) (fin.get-insert nat_cmp_total all id c q)
+    ∙ one_at_most (eq_by_cmp nat_cmp q k) (eq_by_cmp nat_cmp q id) (λ one other. apart (sym (tied_same q k one) ∙ tied_same q id other)) (Some c) (fin.get all q)
+    ∙ ap (cond (eq_by_cmp nat_cmp q id) (Some c)) (sym (fin.get-remove nat_cmp_total all k q)) ∙ sym (fin.get-insert nat_cmp_total (fin.remove all k) id c q))
 
 through : (b : Bool) (f : Connection → Connection) (o : Option Connection) → cond b None (option_map f o) ≡ option_map f (cond b None o)
 through true f o = refl
@@ -117,11 +141,11 @@ each_few turn all =
     let few : opens_in (changed f (fin.entries all)) ≤ open_count all = few_in turn (fin.entries all) in
     omega (arith, count, few)
 
--- ---- those of others
+one_or_none : (b : Bool) → one_if b ≤ 1
+one_or_none true = omega arith
+one_or_none false = omega arith
 
-abbrev pub others_of : Connections → Option ClientConnection → Connections
-others_of all None = all
-others_of all (Some own) = fin.remove all own.id
+-- ---- those of others
 
 abbrev pub places : World → ℕ
 places w = open_count (others_of w.hub.connections w.connection)
@@ -129,6 +153,61 @@ places w = open_count (others_of w.hub.connections w.connection)
 pub places_few : (all : Connections) (own : Option ClientConnection) → open_count (others_of all own) ≤ open_count all
 places_few all None = omega arith
 places_few all (Some own) = fewer all own.id
+
+-- beside them there is the client's own, or none
+pub one_more : (all : Connections) (own : Option ClientConnection) → open_count all ≤ open_count (others_of all own) + 1
+one_more all None = omega arith
+one_more all (Some own) = by_own (fin.get all own.id) refl
+  where
+    by_own : (o : Option Connection) → fin.get all own.id ≡ o → open_count all ≤ open_count (fin.remove all own.id) + 1
+    by_own None none = let same : open_count (fin.remove all own.id) ≡ open_count all = ap open_count (absent all own.id none) in omega (arith, same)
+    by_own (Some c) got =
+        let whole : open_count all ≡ open_count (fin.insert (fin.remove all own.id) own.id c) = ap open_count (sym (put_same all own.id c got) ∙ put_back all own.id c) in
+        let more : open_count (fin.insert (fin.remove all own.id) own.id c) ≤ open_count (fin.remove all own.id) + one_if (is_open c.phase) = insert_count (fin.remove all own.id) own.id c in
+        let one : one_if (is_open c.phase) ≤ 1 = one_or_none (is_open c.phase) in
+        omega (arith, whole, more, one)
+
+fewer_others : (all : Connections) (id : ℕ) (own : Option ClientConnection) → open_count (others_of (fin.remove all id) own) ≤ open_count (others_of all own)
+fewer_others all id None = fewer all id
+fewer_others all id (Some own) =
+    let same : open_count (fin.remove (fin.remove all id) own.id) ≡ open_count (fin.remove (fin.remove all own.id) id) = ap open_count (remove_both all id own.id) in
+    let few : open_count (fin.remove (fin.remove all own.id) id) ≤ open_count (fin.remove all own.id) = fewer (fin.remove all own.id) id in
+    omega (arith, same, few)
+
+put_others : (all : Connections) (id : ℕ) (c : Connection) (own : Option ClientConnection) → open_count (others_of (fin.insert all id c) own) ≤ open_count (others_of all own) + 1
+put_others all id c None =
+    let more : open_count (fin.insert all id c) ≤ open_count all + one_if (is_open c.phase) = insert_count all id c in
+    let one : one_if (is_open c.phase) ≤ 1 = one_or_none (is_open c.phase) in
+    omega (arith, more, one)
+put_others all id c (Some own) = by_id (eq_by_cmp nat_cmp own.id id) refl
+  where
+    by_id : (b : Bool) → eq_by_cmp nat_cmp own.id id ≡ b → open_count (fin.remove (fin.insert all id c) own.id) ≤ open_count (fin.remove all own.id) + 1
+    by_id true is =
+        let same : own.id ≡ id = tied_same own.id id is in
+        let left : open_count (fin.remove (fin.insert all id c) own.id) ≡ open_count (fin.remove all own.id) =
+        ap open_count (ap (fin.remove (fin.insert all id c)) same ∙ put_remains all id c ∙ sym (ap (fin.remove all) same)) in
+        omega (arith, left)
+    by_id false isnt =
+        let left : open_count (fin.remove (fin.insert all id c) own.id) ≡ open_count (fin.insert (fin.remove all own.id) id c) =
+        ap open_count (remove_put all id own.id c (λ same. true≢false (sym (itself id) ∙ ap (λ (k : ℕ). eq_by_cmp nat_cmp k id) (sym same) ∙ isnt))) in
+        let more : open_count (fin.insert (fin.remove all own.id) id c) ≤ open_count (fin.remove all own.id) + one_if (is_open c.phase) = insert_count (fin.remove all own.id) id c in
+        let one : one_if (is_open c.phase) ≤ 1 = one_or_none (is_open c.phase) in
+        omega (arith, left, more, one)
+
+-- where one connection alone is another, one more of them is open at most
+pub one_differs : (all later : Connections) (id : ℕ) (own : Option ClientConnection) → fin.remove later id ≡ fin.remove all id → open_count (others_of later own) ≤ open_count (others_of all own) + 1
+one_differs all later id own same = by_there (fin.get later id) refl
+  where
+    by_there : (o : Option Connection) → fin.get later id ≡ o → open_count (others_of later own) ≤ open_count (others_of all own) + 1
+    by_there None none =
+        let now : open_count (others_of later own) ≡ open_count (others_of (fin.remove all id) own) = ap (λ (x : Connections). open_count (others_of x own)) (sym (absent later id none) ∙ same) in
+        let few : open_count (others_of (fin.remove all id) own) ≤ open_count (others_of all own) = fewer_others all id own in
+        omega (arith, now, few)
+    by_there (Some c) got =
+        let now : open_count (others_of later own) ≡ open_count (others_of (fin.insert all id c) own) =
+        ap (λ (x : Connections). open_count (others_of x own)) (sym (put_same later id c got) ∙ put_back later id c ∙ ap (λ (x : Connections). fin.insert x id c) same ∙ sym (put_back all id c)) in
+        let more : open_count (others_of (fin.insert all id c) own) ≤ open_count (others_of all own) + 1 = put_others all id c own in
+        omega (arith, now, more)
 
 gone_places : (all : Connections) (id : ℕ) (o : Option Connection) → fin.get all id ≡ o → open_count (gone_by all id o) ≤ open_count (fin.remove all id)
 gone_places all id None none = let same : open_count (fin.remove all id) ≡ open_count all = ap open_count (absent all id none) in omega (arith, same)
@@ -162,13 +241,13 @@ received_on s id c (watching w) bytes decision = refl
 received_on s id c ended bytes decision = refl
 received_on s id c (gone had_ended) bytes decision = refl
 
-comes_on : (s t : State) (id : ℕ) (bytes : List ℕ) → runs.Steps s (comes id bytes) t → Remains s id t
+pub comes_on : (s t : State) (id : ℕ) (bytes : List ℕ) → runs.Steps s (comes id bytes) t → Remains s id t
 comes_on s t id bytes (decision, asks, is) =
     subst (Remains s id) (sym is)
     (refused_or (refusal s (comes id bytes)) s (applied_event s (comes id bytes) decision) id
     (on_it s id (fin.get s.connections id) (λ c. received_by s id c c.phase bytes decision) (λ c. received_on s id c c.phase bytes decision)))
 
-opens_on : (s t : State) (id : ℕ) → runs.Steps s (opens id) t → Remains s id t
+pub opens_on : (s t : State) (id : ℕ) → runs.Steps s (opens id) t → Remains s id t
 opens_on s t id (decision, asks, is) =
     subst (Remains s id) (sym is) (refused_or (refusal s (opens id)) s (with_connection s id (opening s.connections)) id (put_remains s.connections id (opening s.connections)))
 
@@ -178,7 +257,7 @@ pumps_on s t id max (decision, asks, is) =
     (refused_or (refusal s (pumps id max)) s (applied_event s (pumps id max) decision) id
     (on_it s id (fin.get s.connections id) (λ c. with_connection s id (with_turn (pumped s.machine max) c)) (λ c. put_remains s.connections id (with_turn (pumped s.machine max) c))))
 
-goes_are : (s t : State) (id : ℕ) → runs.Steps s (goes id) t → t ≡ with_connections s (gone_by s.connections id (fin.get s.connections id))
+pub goes_are : (s t : State) (id : ℕ) → runs.Steps s (goes id) t → t ≡ with_connections s (gone_by s.connections id (fin.get s.connections id))
 goes_are s t id (decision, asks, is) = is ∙ sym (goes_so s id).2
 
 -- ---- a tick
@@ -288,46 +367,11 @@ module _ (task : Task) (w : World) where
             let few : open_count (others_of t.connections w.connection) ≤ places w = ticks_few w.hub t ms w.connection steps in
             omega (arith, now, few)
 
-    -- ---- the next move
-
-    either : (b : Bool) (e f : WorldEvent) → Fewer e → Fewer f → Fewer (cond b e f)
-    either true e f one another = one
-    either false e f one another = another
-
-    waits_few : (st : Phase) → Fewer (wait_by w own.id st)
-    waits_few (waiting bytes) = by_cut
-    waits_few (watching watch) =
-        either (nat_lt watch.cursor.position w.hub.machine.current) (other (pumps own.id w.hub.machine.current)) (cond (is_bookmark_due watch.cursor) (other (ticks w.hub.last_tick)) cut) (by_pump w.hub.machine.current)
-        (either (is_bookmark_due watch.cursor) (other (ticks w.hub.last_tick)) cut (by_tick w.hub.last_tick) by_cut)
-    waits_few ended = by_cut
-    waits_few (gone had_ended) = by_cut
-
-    wait_few : (o : Option Connection) → Fewer (unwrap_or (option_map (λ c. wait_by w own.id c.phase) o) cut)
-    wait_few None = by_cut
-    wait_few (Some c) = waits_few c.phase
-
-    on_few : Fewer (move_on w own)
-    on_few =
-        either (nat_lt own.handed (length (reply_on w own))) (to_client (length (reply_on w own))) (cond (nat_lt 0 (length own.unsent)) (to_server (length own.unsent)) (wait_on w own)) (by_to_client (length (reply_on w own)))
-        (either (nat_lt 0 (length own.unsent)) (to_server (length own.unsent)) (wait_on w own) (by_to_server (length own.unsent)) (wait_few (fin.get w.hub.connections own.id)))
-
-    own_few : Fewer (move_by w true (Some own))
-    own_few = either (is_old w.hub.machine.current w.client.sync) cut (move_on w own) by_cut on_few
-
-  moves_few : (awaits : Bool) (own : Option ClientConnection) → w.connection ≡ own → Fewer (move_by w awaits own)
-  moves_few false own has = by_send
-  moves_few true None has = by_send
-  moves_few true (Some own) has = own_few own has
+    on_own : OnOwn Fewer own
+    on_own = record { asks = by_to_server; reads = by_to_client; pump = by_pump; tick = by_tick }
 
   next_few : (e : WorldEvent) → next_move w ≡ Some e → Fewer e
-  next_few e is = go (is_current w) is
-    where
-      same : (f : WorldEvent) → Some f ≡ Some e → Fewer f → Fewer e
-      same f is few = subst (λ (o : Option WorldEvent). Fewer (unwrap_or o f)) is few
-
-      go : (b : Bool) → cond b None (Some (move_by w w.client.is_awaiting_reply w.connection)) ≡ Some e → Fewer e
-      go true is = absurd cc
-      go false is = same (move_by w w.client.is_awaiting_reply w.connection) is (moves_few w.client.is_awaiting_reply w.connection refl)
+  next_few = next_holds w Fewer by_send by_cut on_own
 
 -- moves make them no more
 pub moves_places : (task : Task) (i : ℕ) (w : World) (es : List WorldEvent) (v : World) (reports : List Report) → Pursues task i w es v reports → places v ≤ places w

@@ -3,13 +3,11 @@ use Rattle.std.proofs.Common.{ℕ, suc, ◌<◌, ◌≤◌, List, length, arith,
 use Rattle.std.proofs.lemmas.Bool.{and_parts}
 use Rattle.std.specs.Prelude.{nat_le}
 use Rattle.api_types.specs.TypesFile.{ServedShape}
-use Rattle.history.specs.History.{fresh}
 use Rattle.verbs.specs.Machine.{AreObjectTypes, IsMachine}
-use Rattle.httpedge.specs.Runs as runs
-use Rattle.httpedge.specs.Steps as edge
 use Rattle.liveness_laws.proofs.Listed.{is_list_of}
-use Rattle.liveness_laws.proofs.PageAnswers.{Laws, page_comes}
+use Rattle.liveness_laws.proofs.PageAnswers.{page_comes}
 use Rattle.liveness_laws.proofs.Restart.{IsReady, report_comes, revision_comes}
+use Rattle.liveness_laws.specs.BothEnds.{Lasts, PagesAreAnswered}
 use Rattle.liveness_laws.specs.Listable.{FitsIn, HasRoom, IsListable, listed_now}
 use Rattle.liveness_laws.specs.Progress.{ListsComeAnew, ReportsCanCome}
 use Rattle.world_laws.proofs.HubRuns.{runs_run}
@@ -17,12 +15,6 @@ use Rattle.world_laws.proofs.TaskObjects.{selected_read}
 use Rattle.world_laws.specs.Reports.{Report, Runs}
 use Rattle.world_laws.specs.Tasks.{IsStillTask, IsTask, Task, wanted_by, with_shape}
 use Rattle.world_laws.specs.World.{World, WorldEvent, start}
-
--- what lasts over the events of a hub
-pub record Lasts : Type 0 where
-  pub begins : (types : List ServedShape) → AreObjectTypes types → IsMachine types (fresh 1)
-  pub machines : (s t : edge.State) (hs : List runs.Action) → IsMachine s.types s.machine → runs.Runs s hs t → IsMachine t.types t.machine
-  pub tasks : (s t : edge.State) (hs : List runs.Action) (task : Task) → IsStillTask s.types task → runs.Runs s hs t → IsStillTask t.types task
 
 some_page : (types : List ServedShape) (task : Task) → IsTask types task → 0 < task.settings.page
 some_page types task is = let low : 1 ≤ task.settings.page = leb-true 1 task.settings.page (and_parts (nat_le 1 task.settings.page) (nat_le task.settings.page 500) is.page).0 in omega (arith, low)
@@ -42,7 +34,7 @@ after_run lasts types task before w earlier shapes is run =
     }
 
 -- it is ready for the list
-pub ready : Laws → (task : Task) (w : World) (pages : ℕ) → IsAfterRun task w → FitsIn task w.hub.machine pages → IsListable task w.hub.machine → HasRoom w.hub.connections pages → IsReady task w pages
+pub ready : PagesAreAnswered → (task : Task) (w : World) (pages : ℕ) → IsAfterRun task w → FitsIn task w.hub.machine pages → IsListable task w.hub.machine → HasRoom w.hub.connections pages → IsReady task w pages
 ready laws task w pages after held listable room =
     let types : List ServedShape = w.hub.types in
     let shaped : Task = with_shape task after.still.0 in
@@ -54,10 +46,10 @@ ready laws task w pages after held listable room =
       room = room;
     }
 
-pub reports_come : Laws → Lasts → ReportsCanCome
+pub reports_come : PagesAreAnswered → Lasts → ReportsCanCome
 reports_come laws lasts types task before w earlier pages shapes is run held listable room =
     report_comes task w (suc (length before)) pages (ready laws task w pages (after_run lasts types task before w earlier shapes is run) held listable room)
 
-pub lists_come : Laws → Lasts → ListsComeAnew
+pub lists_come : PagesAreAnswered → Lasts → ListsComeAnew
 lists_come laws lasts types task before w earlier pages shapes is run silent anew behind held listable room =
     revision_comes task w (suc (length before)) pages silent anew behind (ready laws task w pages (after_run lasts types task before w earlier shapes is run) held listable room)

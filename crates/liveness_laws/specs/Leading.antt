@@ -3,17 +3,16 @@ use Rattle.std.specs.Prelude.{◌≡◌, ◌⊎◌, ℕ, zero, suc, ◌+◌, ◌
 use Rattle.std.specs.FinMap as fin
 use Rattle.api_types.specs.TypesFile.{ServedShape}
 use Rattle.verbs.specs.Machine.{AreObjectTypes}
-use Rattle.wire.specs.Heads.{max_head}
 use Rattle.httpedge.specs.Connections.{Connection, highest, open_count}
 use Rattle.httpedge.specs.Steps.{State, with_turn}
 use Rattle.httpedge.specs.Watches.{ticked}
 use Rattle.indexer.specs.Objects.{Stored}
 use Rattle.reflector.specs.Client.{Cache, SyncPhase, first, next, streaming}
-use Rattle.liveness_laws.specs.Listable.{FitsIn, HasRoom, IsListable, watch_request}
+use Rattle.liveness_laws.specs.Listable.{FitsIn, HasRoom, IsListable, OthersLeaveRoom, listed_now}
 use Rattle.world_laws.specs.Moves.{Pursues, is_current}
 use Rattle.liveness_laws.specs.Progress.{RevisionComes, is_own}
-use Rattle.world_laws.specs.Reports.{Report, Runs}
-use Rattle.world_laws.specs.Tasks.{IsTask, Task}
+use Rattle.world_laws.specs.Reports.{IsStateAt, Report, Runs}
+use Rattle.world_laws.specs.Tasks.{IsTask, Task, wanted_by}
 use Rattle.world_laws.specs.World.{World, WorldEvent, start}
 
 -- ---- what stays
@@ -95,28 +94,28 @@ WatchesGoOn =
     → w.client.is_awaiting_reply ≡ true → w.client.sync ≡ streaming → is_current w ≡ false
     → LeadsTo task (suc (length before)) w 8 (IsCurrentOrIdle 0 AnyPhase w)
 
--- its request for a watch from any revision that the machine has had is within the server's limit
-abbrev pub WatchesCanBeAsked : Task → ℕ → Type 0
-WatchesCanBeAsked task current = (revision : ℕ) → revision ≤ current → length (watch_request task revision) ≤ max_head
-
 -- From the world after any run in which the client is to watch from a revision that isn't forgotten, at most so many moves lead to the machine's current revision, or to where the client asks for the first page next.
 abbrev pub WatchesCatchUp : Type 0
 WatchesCatchUp =
     (types : List ServedShape) (task : Task) (before : List WorldEvent) (w : World) (earlier : List Report) (now : Cache)
     → AreObjectTypes types → IsTask types task → Runs task 1 (start types) before w earlier
     → w.client.is_awaiting_reply ≡ false → w.client.sync ≡ streaming → w.client.cache ≡ Some now → is_current w ≡ false → w.hub.machine.compacted ≤ now.revision
-    → WatchesCanBeAsked task w.hub.machine.current → HasRoom w.hub.connections 1
+    → HasRoom w.hub.connections 1
     → LeadsTo task (suc (length before)) w 8 (IsCurrentOrIdle 1 (λ phase. phase ≡ first) w)
 
 -- ---- all of it
 
-abbrev pub IsThere : World → Type 0
-IsThere v = (is_current v ≡ true)
+-- the client has the machine's revision, and its objects are the machine's of it
+pub record IsCaughtUp (task : Task) (v : World) : Type 0 where
+  pub now : Cache
+  pub kept : v.client.cache ≡ Some now
+  pub is_current : now.revision ≡ v.hub.machine.current
+  pub objects : IsStateAt (wanted_by task) (listed_now task v.hub.machine) now.objects
 
--- From the world after any run, whatever the client was doing in it, the moves of the schedule lead to the machine's current revision, without a restart.
+-- From the world after any run, whatever the client was doing in it, the moves of the schedule lead to the machine's current revision and its objects, without a restart.
 abbrev pub CatchesUp : Type 0
 CatchesUp =
     (types : List ServedShape) (task : Task) (before : List WorldEvent) (w : World) (earlier : List Report) (pages : ℕ)
     → AreObjectTypes types → IsTask types task → Runs task 1 (start types) before w earlier
-    → FitsIn task w.hub.machine pages → IsListable task w.hub.machine → WatchesCanBeAsked task w.hub.machine.current → HasRoom w.hub.connections (3 + pages)
-    → LeadsTo task (suc (length before)) w (20 + 3 * pages) IsThere
+    → FitsIn task w.hub.machine pages → IsListable task w.hub.machine → OthersLeaveRoom w (3 + pages)
+    → LeadsTo task (suc (length before)) w (20 + 3 * pages) (IsCaughtUp task)

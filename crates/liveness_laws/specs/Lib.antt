@@ -1,3 +1,4 @@
+pub mod BothEnds
 pub mod Leading
 pub mod Listable
 pub mod Progress

@@ -1,4 +1,4 @@
--- What a list needs to come whole, page by page. Each of it can be had, and without it there is a list that never comes.
+-- What a list needs to come whole, page by page. Each of it can be had, and without it, as far as events lead there, there is a list that never comes.
 use Rattle.std.specs.Prelude.{ℕ, ◌+◌, ◌*◌, ◌<◌, ◌≤◌, List, ◌∷◌, ◌++◌, length, Option, Some, None, codes}
 use Rattle.std.specs.FinMap as fin
 use Rattle.std.specs.List.{AllByRecursion}
@@ -15,6 +15,7 @@ use Rattle.wireclient.specs.Request.{request}
 use Rattle.reflector.specs.Client.{max_objects}
 use Rattle.reflector.specs.Requests.{list_query, path_of, watch_query}
 use Rattle.world_laws.specs.Tasks.{Task, client_settings, selected_at, selection, wanted_by}
+use Rattle.world_laws.specs.World.{ClientConnection, World}
 
 -- ---- the list
 
@@ -64,3 +65,13 @@ pub record HasRoom (all : Connections) (sends : ℕ) : Type 0 where
   pub ids : highest (fin.keys all) + sends ≤ 18446744073709551615
   -- where as many are open as may be the server refuses the next by 503
   pub room : open_count all < max_open
+
+-- the connections of others: all but the client's
+abbrev pub others_of : Connections → Option ClientConnection → Connections
+others_of all None = all
+others_of all (Some own) = fin.remove all own.id
+
+-- The same for the client alone, which leaves its connection before it opens the next: others leave one.
+pub record OthersLeaveRoom (w : World) (sends : ℕ) : Type 0 where
+  pub ids : highest (fin.keys w.hub.connections) + sends ≤ 18446744073709551615
+  pub room : open_count (others_of w.hub.connections w.connection) < max_open

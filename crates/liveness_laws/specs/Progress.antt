@@ -4,11 +4,10 @@ use Rattle.std.specs.FinMap as fin
 use Rattle.std.specs.List.{list_all}
 use Rattle.api_types.specs.TypesFile.{ServedShape}
 use Rattle.verbs.specs.Machine.{AreObjectTypes}
-use Rattle.wire.specs.Heads.{max_head}
 use Rattle.httpedge.specs.Connections.{Connection}
 use Rattle.indexer.specs.Objects.{Stored}
 use Rattle.reflector.specs.Client.{Cache, first, next, streaming}
-use Rattle.liveness_laws.specs.Listable.{FitsIn, HasRoom, IsListable, watch_request}
+use Rattle.liveness_laws.specs.Listable.{FitsIn, HasRoom, IsListable}
 use Rattle.world_laws.specs.Moves.{Pursues, is_current}
 use Rattle.world_laws.specs.Reports.{Report, Runs, reports_between}
 use Rattle.world_laws.specs.Tasks.{IsTask, Task}
@@ -111,11 +110,10 @@ PastListsAreGivenUp =
     → w.client.sync ≡ next revision token paged → (revision == w.hub.machine.current) ≡ false → is_current w ≡ false
     → FitsIn task w.hub.machine pages → IsListable task w.hub.machine → HasRoom w.hub.connections (suc pages) → ComesAnew task (suc (length before)) w pages
 
--- Without a restart, where the client is to watch from a revision that is forgotten: the server answers 410, and the list begins anew.
+-- Without a restart, where the client is to watch from a revision that is forgotten: the server answers 410, or 431 where the request is too long, and the list begins anew.
 abbrev pub ExpiredWatchesAreGivenUp : Type 0
 ExpiredWatchesAreGivenUp =
     (types : List ServedShape) (task : Task) (before : List WorldEvent) (w : World) (earlier : List Report) (pages : ℕ) (now : Cache)
     → AreObjectTypes types → IsTask types task → Runs task 1 (start types) before w earlier
     → w.client.is_awaiting_reply ≡ false → w.client.sync ≡ streaming → w.client.cache ≡ Some now → now.revision < w.hub.machine.compacted
-    → length (watch_request task now.revision) ≤ max_head
     → FitsIn task w.hub.machine pages → IsListable task w.hub.machine → HasRoom w.hub.connections (suc pages) → ComesAnew task (suc (length before)) w pages

@@ -5,11 +5,10 @@ use Rattle.api_types.specs.TypesFile.{ServedShape}
 use Rattle.history.specs.History.{History}
 use Rattle.history.specs.Seen.{SeenChange, seen_changes}
 use Rattle.verbs.specs.Machine.{AreObjectTypes}
-use Rattle.wire.specs.Heads.{max_head}
 use Rattle.httpedge.specs.Steps as edge
 use Rattle.reflector.specs.Client.{Cache, first, streaming}
 use Rattle.liveness_laws.specs.Leading.{IsCurrentOrIdle, OthersTick, ServerStays}
-use Rattle.liveness_laws.specs.Listable.{HasRoom, watch_request}
+use Rattle.liveness_laws.specs.Listable.{HasRoom}
 use Rattle.world_laws.specs.Moves.{is_current}
 use Rattle.world_laws.specs.Reports.{Report, Runs}
 use Rattle.world_laws.specs.Tasks.{IsTask, Task, selection}
@@ -61,5 +60,5 @@ WatchesTell =
     → AreObjectTypes types → IsTask types task → Runs task 1 (start types) before w earlier
     → w.client.is_awaiting_reply ≡ false → w.client.sync ≡ streaming → w.client.cache ≡ Some now → is_current w ≡ false → w.hub.machine.compacted ≤ now.revision
     → length (changes_after task w.hub.machine now.revision) < turns * max
-    → length (watch_request task now.revision) ≤ max_head → HasRoom w.hub.connections 1
+    → HasRoom w.hub.connections 1
     → Tells task (suc (length before)) w max (2 * turns + 5) (IsCurrentOrIdle 1 (λ phase. phase ≡ first) w)

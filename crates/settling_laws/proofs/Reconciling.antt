@@ -1,9 +1,8 @@
 -- A Reconcile in a world where the client has the machine's revision.
-use Rattle.std.proofs.Common.{◌≡◌, ◌≢◌, ℕ, ◌+◌, true, List, Option, Some, refl, sym, ap, subst, ◌∙◌, arith, eqb-true, true≢false}
+use Rattle.std.proofs.Common.{◌≡◌, ◌≢◌, ℕ, ◌+◌, true, List, Option, Some, refl, sym, ap, subst, ◌∙◌, arith, true≢false}
 use Rattle.std.specs.Prelude.{is_some}
 use Rattle.std.specs.FinMap as fin
 use Rattle.api_types.specs.TypesFile.{ServedShape}
-use Rattle.history.specs.History.{fresh}
 use Rattle.history.proofs.Wholes.{whole_is}
 use Rattle.verbs.specs.Machine.{AreObjectTypes, IsMachine}
 use Rattle.api_request.specs.Calls.{Call}
@@ -22,12 +21,13 @@ use Rattle.summary.specs.Apply.{apply_request}
 use Rattle.summary.specs.Counts.{Summed}
 use Rattle.world_laws.proofs.HubRuns.{runs_run}
 use Rattle.world_laws.specs.Headline.{Headline}
-use Rattle.world_laws.specs.Reports.{IsKeptRight, IsStateAt, Report, Runs, last_reported}
-use Rattle.world_laws.specs.Tasks.{IsTask, Task, selected_at, selection, wanted_by}
+use Rattle.world_laws.specs.Reports.{IsStateAt, Report, Runs}
+use Rattle.world_laws.specs.Tasks.{Task, selection, wanted_by}
 use Rattle.world_laws.specs.World.{HubTakes, Reconciles, Steps, World, WorldEvent, reconcile, start}
 use Rattle.liveness_laws.proofs.Hub.{next_is, opens_so}
+use Rattle.liveness_laws.proofs.CaughtUp.{objects_right}
+use Rattle.liveness_laws.specs.BothEnds.{Lasts}
 use Rattle.liveness_laws.specs.Listable.{HasRoom, listed_now}
-use Rattle.world_laws.specs.Moves.{is_at, is_current}
 use Rattle.settling_laws.specs.Applying.{AppliesAsk, ReconcilesApply, apply_call}
 use Rattle.settling_laws.specs.Said.{IsSayable}
 use Rattle.settling_laws.specs.Settling.{CanReconcile, Settles, counts}
@@ -82,25 +82,7 @@ module _ (task : Task) (w : World) (now : Cache) (bytes : List ℕ) (call : Call
       let apart = other_id w.hub.connections id q c new_id got in
       put_elsewhere (fin.insert w.hub.connections id new_connection) id q _ apart ∙ put_elsewhere w.hub.connections id q new_connection apart ∙ got
 
--- ---- what the client keeps
-
-revision_is : (current : ℕ) (now : Cache) → is_at current (Some now) ≡ true → now.revision ≡ current
-revision_is current now is = eqb-true now.revision current is
-
-pub objects_right : Headline → (types : List ServedShape) (task : Task) (before : List WorldEvent) (w : World) (earlier : List Report) (now : Cache)
-    → AreObjectTypes types → IsTask types task → Runs task 1 (start types) before w earlier → w.client.cache ≡ Some now → is_current w ≡ true
-    → IsStateAt (wanted_by task) (listed_now task w.hub.machine) now.objects
-objects_right headline types task before w earlier now shapes is run kept current =
-    let right = subst (IsKeptRight task (last_reported 1 earlier) w.hub.machine) kept (headline types task before w earlier shapes is run).1 in
-    subst (λ (r : ℕ). IsStateAt (wanted_by task) (selected_at task w.hub.machine r) now.objects)
-    (revision_is w.hub.machine.current now (ap (is_at w.hub.machine.current) (sym kept) ∙ current)) right.objects
-
 -- ---- the machine
-
--- what lasts over the events of a hub
-pub record Lasts : Type 0 where
-  pub begins : (types : List ServedShape) → AreObjectTypes types → IsMachine types (fresh 1)
-  pub machines : (s t : edge.State) (hs : List runs.Action) → IsMachine s.types s.machine → runs.Runs s hs t → IsMachine t.types t.machine
 
 pub machine_after_run : Lasts → (types : List ServedShape) (task : Task) (before : List WorldEvent) (w : World) (earlier : List Report) → AreObjectTypes types
     → Runs task 1 (start types) before w earlier → IsMachine w.hub.types w.hub.machine
@@ -131,6 +113,7 @@ settles ask apply lasts headline types task before w earlier now kind shapes is 
       steps = leads task w now bytes call can.room asks kept refl;
       objects = objects;
       counted = apply w.hub.types w.hub.machine kind s task.settings.summary machine can.serves.served can.named sayable can.stored;
+      applied = refl;
       types = refl;
       clock = refl;
       client = refl;

@@ -1,4 +1,5 @@
 pub mod Applying
+pub mod Rest
 pub mod Resting
 pub mod Said
 pub mod Settling

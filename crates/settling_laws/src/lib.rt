@@ -3,13 +3,14 @@
 //!
 //! `specs/SummaryType` says which type its objects are of; `specs/Said` what an object says of counts; `specs/Applying` what an
 //! apply of them makes of a machine; `specs/Settling` what a Reconcile leads to, and another after it;
-//! `specs/Resting` that catching up and reconciling comes to rest.
+//! `specs/Rest` that it then stays so; `specs/Resting` that catching up and reconciling leads there.
 #![tactic(auto)]
 
 ghost use Rattle.settling_laws.specs.SummaryType.{SummariesCanBeServed};
 ghost use Rattle.settling_laws.specs.Applying.{AppliesAsk, AppliesStay, ReconcilesApply};
 ghost use Rattle.settling_laws.specs.Said.{AppliedStay};
-ghost use Rattle.settling_laws.specs.Resting.{ComesToRest};
+ghost use Rattle.settling_laws.specs.Rest.{RestLasts, RestStays, SettledRests};
+ghost use Rattle.settling_laws.specs.Resting.{ComesToRest, ComesToRestInSteps};
 ghost use Rattle.settling_laws.specs.Settling.{SettledStays, Settles};
 
 /// A types file can declare the type of summaries, as the pages print it.
@@ -45,29 +46,40 @@ pub fn settles()
 {
     applies_ask();
     reconciles_apply();
-    verbs::machines_stay();
-    httpedge::machines_last();
-    world_laws::headline();
+    liveness_laws::both_ends();
 }
 
-/// After such a Reconcile, once the client has caught up, another changes nothing: where the object isn't of the type that is counted,
-/// and meanwhile nobody changed what stands.
-pub fn settled_stays()
-    ensures { SettledStays }
+/// Rest is a state of the world: where the client has the machine's revision, and the object is already what an apply of its counts
+/// makes of it (`IsAtRest`), a Reconcile changes nothing (`stays`). It lasts, whatever else happens, while what is counted and the object
+/// stand as they did and the client has caught up (`lasts`).
+pub fn rest_stays()
+    ensures stays { RestStays }
+    ensures lasts { RestLasts }
 {
     applies_ask();
     applies_stay();
-    settles();
-    verbs::machines_stay();
-    httpedge::machines_last();
-    world_laws::headline();
-    world_laws::one_world();
+    liveness_laws::both_ends();
 }
 
-/// From the world after any run, whatever happened in it: catching up, a Reconcile, catching up and another, of which the last
-/// changes nothing. Each needs what is said of it (`CanCatchUp`, `CanReconcile`), and nobody else acts meanwhile.
+/// After such a Reconcile, once the client has caught up, the world is at rest (`rests`), so another changes nothing (`stays`): where the
+/// object isn't of the type that is counted, and meanwhile nobody changed it or what is counted.
+pub fn settled_stays()
+    ensures rests { SettledRests }
+    ensures stays { SettledStays }
+{
+    applies_stay();
+    rest_stays();
+    settles();
+    world_laws::one_world();
+    liveness_laws::both_ends();
+}
+
+/// From the world after any run, whatever happened in it, catching up, a Reconcile and catching up come to rest, where another Reconcile
+/// changes nothing: nobody else acts meanwhile, and all that is needed is said of that world (`whole`, `CanComeToRest`). Step by step each
+/// needs what is said of the world where it happens (`steps`).
 pub fn comes_to_rest()
-    ensures { ComesToRest }
+    ensures steps { ComesToRestInSteps }
+    ensures whole { ComesToRest }
 {
     settles();
     settled_stays();

@@ -1,4 +1,3 @@
-use Rattle.std.proofs.Common.{arith}
 use Rattle.liveness_laws.proofs.CaseByCase.{catches_so}
 use Rattle.liveness_laws.proofs.catches_up.Goals as goal
 
@@ -10,16 +9,4 @@ returns c = catches_so (record {
   replies = c.replies_end.ensures;
   reads = c.watches_go_on.ensures;
   watches = c.watches_catch_up.ensures;
-}) (record {
-  asks = c.requests_ask.ensures.without_body;
-  planned_so = c.lists_are_planned.ensures.pages;
-  replies = c.replies_are_read.ensures.replies;
-  short = c.replies_are_read.ensures.short;
-  first = c.pages_are_answered.ensures.first;
-  next = c.pages_are_answered.ensures.next;
-  texts = c.pages_are_answered.ensures.texts;
-}) (record {
-  begins = λ types shapes. c.machines_stay.ensures.begins types 1 shapes (omega arith) (omega arith);
-  machines = c.machines_last.ensures;
-  tasks = c.tasks_last.ensures;
-})
+}) c.both_ends.ensures
