@@ -57,7 +57,7 @@ GATE = {
         "a_write_that_is_refused_memory", "a_compaction_that_is_refused_memory",                # of stores
         "waiting_writes_that_are_refused_memory",                                               # of stores
     ],
-    "json_patch_tests": ["a_merge_that_is_refused_memory"],
+    "json_patch_tests": ["a_merge_that_is_refused_memory", "a_patch_that_is_refused_memory"],
     "server_tests": ["calls_that_are_refused_memory"],
     "world_tests": ["a_run_that_is_refused_memory"],
 }

@@ -1,5 +1,16 @@
+pub mod Again
+pub mod Alike
+pub mod Below
 pub mod Children
+pub mod Deeper
+pub mod Exactly
+pub mod Failing
 pub mod MergeSteps
+pub mod Nested
+pub mod Placed
 pub mod Putting
+pub mod Room
+pub mod Several
+pub mod Sizes
 pub mod Tokens
 pub mod Unnamed

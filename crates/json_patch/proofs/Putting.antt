@@ -27,10 +27,10 @@ abbrev pub Ascend : List Entry → Type 0
 Ascend es = IsStrictlySortedBy string_cmp (keys_of es)
 
 -- a name before the first of them is before all
-abbrev AllAfter : List ℕ → List Entry → Type 0
+abbrev pub AllAfter : List ℕ → List Entry → Type 0
 AllAfter name es = AllByRecursion (λ e. bytes_cmp name (string_bytes e.0) ≡ Less) es
 
-all_after : (name : List ℕ) (k : String Global) (es : List Entry) → bytes_cmp name (string_bytes k) ≡ Less → AllByRecursion (λ y. string_cmp k y ≡ Less) (keys_of es) → AllAfter name es
+pub all_after : (name : List ℕ) (k : String Global) (es : List Entry) → bytes_cmp name (string_bytes k) ≡ Less → AllByRecursion (λ y. string_cmp k y ≡ Less) (keys_of es) → AllAfter name es
 all_after name k [] before above = tt
 all_after name k (e ∷ es) before above = (nat_list_cmp_total.trans name (string_bytes k) (string_bytes e.0) before above.0, all_after name k es before above.1)
 

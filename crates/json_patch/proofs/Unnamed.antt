@@ -11,7 +11,7 @@ use Rattle.serde_json.proofs.Views.{get_member-put_other}
 use Rattle.json_values.specs.Members.{less}
 use Rattle.json_patch.specs.MergePatch.{merge_patch, merge_members, value_at}
 
-same_by : (q k : List ℕ) → slice_cmp nat_cmp q k ≡ Equal → q ≡ k
+pub same_by : (q k : List ℕ) → slice_cmp nat_cmp q k ≡ Equal → q ≡ k
 same_by q k is = (bytes_eq-Decides q k).0 (sym (is_eq-slice_cmp q k) ∙ ap is_eq is)
 
 apart : (q k : List ℕ) (o : Ordering) → slice_cmp nat_cmp q k ≡ o → is_eq o ≡ false → q ≡ k → ⊥

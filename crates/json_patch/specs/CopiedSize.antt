@@ -1,5 +1,5 @@
 -- How much a copied value counts: the bytes of its compact text, with null in place of a float, which has no one text.
-use Rattle.std.specs.Prelude.{ℕ, length, if◌then◌else◌}
+use Rattle.std.specs.Prelude.{ℕ, ◌-◌, nat_le, length, Option, Some, None, if◌then◌else◌}
 use Rattle.serde_json.specs.Data.{Data, null, boolean, number, string, array, object, Items, no_items, item, Members, no_members, member}
 use Rattle.serde_json.specs.Find.{is_float}
 use Rattle.serde_json.specs.Written.{compact_text}
@@ -27,3 +27,7 @@ copied_size d = length (compact_text (without_floats d))
 -- all that one patch may copy
 abbrev pub copied_limit : ℕ
 copied_limit = 1_048_576
+
+-- what is left of so much room; none where the size is more
+abbrev pub left_of : ℕ → ℕ → Option ℕ
+left_of room size = if nat_le size room then Some (room - size) else None

@@ -1,7 +1,10 @@
 pub mod MergePatch
+pub mod Ascending
 pub mod Pointers
 pub mod Places
 pub mod Equality
 pub mod CopiedSize
+pub mod Nesting
 pub mod Operations
 pub mod Forms
+pub mod Represented

@@ -16,7 +16,7 @@ fn starts_with_zero(digits: &[u8]) -> bool
 }
 
 /// The index that a token is: digits, with no 0 before another.
-fn index(token: &str) -> Option<usize>
+pub(crate) fn index(token: &str) -> Option<usize>
     ensures { result ≡ index_of token.now }
 {
     let digits = token.as_bytes();

@@ -2,6 +2,8 @@
 #![tactic(auto)]
 
 #[cfg(test)]
+mod json_patches;
+#[cfg(test)]
 mod merge_patches;
 #[cfg(test)]
 mod pointers;
