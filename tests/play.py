@@ -1,11 +1,12 @@
 #!/usr/bin/env python3
 """Plays rows of data over the built programs, and says which are answered otherwise than they should be.
 
-    tests/play.py [--programs FOLDER] [FILE.rows..]
+    tests/play.py [--programs FOLDER] [--but FOLDER/NAME].. [FILE.rows..]
 
 FOLDER has the programs as a release names them (`ssa-pipe`); without it they are those that `rt run` and the gate build, or
-the released ones. Without a file all rows are played. The first line of a failure names the row and says what is wrong; the
-last line is `N passed, M failed`, of rows, and the status is 0 where M is 0. README.md says how to add a row.
+the released ones. Without a file all rows are played, but those of the files that `--but` names, as `hub/fronts`, and those of
+what isn't served yet. The first line of a failure names the row and says what is wrong; the last line is `N passed, M failed`,
+of rows, and the status is 0 where M is 0. README.md says how to add a row.
 """
 
 from __future__ import annotations
@@ -23,6 +24,8 @@ import rows
 from programs import Programs
 
 TESTS = os.path.dirname(os.path.realpath(__file__))
+# The folders of rows of what isn't served yet. Their files are played where they are named.
+NOT_SERVED = ("kubernetes",)
 
 
 class Played(NamedTuple):
@@ -74,9 +77,12 @@ def play_file(folder: str, path: str) -> Played:
     )
 
 
-def all_files() -> list[str]:
-    """All files of rows, the largest first."""
-    found = glob.glob(f"{TESTS}/*/*.rows")
+def all_files(left_out: Sequence[str]) -> list[str]:
+    """All files of rows of what is served but these, the largest first."""
+    absent = {f"{TESTS}/{it}.rows" for it in left_out}
+    for folder in NOT_SERVED:
+        absent |= {*glob.glob(f"{TESTS}/{folder}/*.rows")}
+    found = {*glob.glob(f"{TESTS}/*/*.rows")} - absent
     return sorted(found, key=lambda it: (-os.path.getsize(it), it))
 
 
@@ -84,9 +90,10 @@ def main(words: Sequence[str]) -> int:
     """Plays what the words name."""
     read = argparse.ArgumentParser(description=(__doc__ or "").partition("\n")[0])
     read.add_argument("--programs", metavar="FOLDER", default="")
+    read.add_argument("--but", metavar="FOLDER/NAME", action="append", default=[])
     read.add_argument("files", metavar="FILE.rows", nargs="*")
     given = read.parse_args(words)
-    paths = [os.path.relpath(it) for it in given.files or all_files()]
+    paths = [os.path.relpath(it) for it in given.files or all_files(given.but)]
     passed = failed = 0
     lanes = len(os.sched_getaffinity(0))
     with concurrent.futures.ProcessPoolExecutor(lanes) as pool:

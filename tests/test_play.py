@@ -135,6 +135,19 @@ class WhatIsMalformed(Played):
         self.assertIn("can't decode byte 0xff", lines[0])
         self.assertEqual((status, lines[-1]), (1, "0 passed, 1 failed"))
 
+    def test_all_files_but_some(self) -> None:
+        """What is left out, and what isn't served yet, isn't played unless it is named."""
+        some = "# Some.\n\none\nsay a => a\n"
+        self.file(some)
+        path = self.file(some, "more.rows")
+        with mock.patch.object(play, "TESTS", os.path.dirname(self.folder)):
+            self.assertEqual(self.run_over(), (0, ["2 passed, 0 failed"]))
+            alone = (0, ["1 passed, 0 failed"])
+            self.assertEqual(self.run_over("--but", "made_up/more"), alone)
+            with mock.patch.object(play, "NOT_SERVED", ("made_up",)):
+                self.assertEqual(self.run_over(), (1, ["0 passed, 0 failed"]))
+                self.assertEqual(self.run_over(path), alone)
+
     def test_nothing_to_play(self) -> None:
         """No file at all is no success."""
         with mock.patch.object(play, "TESTS", self.folder):
