@@ -35,7 +35,7 @@ func (c *counter) step() error {
 		}
 	}
 	c.hub.Pump()
-	c.hub.Rest(time.Millisecond)
+	c.hub.Rest(5 * time.Millisecond)
 	var lines []watchLine
 	if c.watch != nil {
 		var isOver bool

@@ -29,6 +29,8 @@ type connection struct {
 	failed error
 	// isRead tells that a reader waits for bytes, or has had no line yet.
 	isRead bool
+	// isClosed tells that a reader has closed the body.
+	isClosed bool
 	// whole is its reply, where that ended with the request.
 	whole []byte
 	// isWatch tells that its reply goes on after the request.
@@ -69,6 +71,7 @@ func (c *connection) Read(room []byte) (int, error) {
 func (c *connection) Close() error {
 	c.server.lock.Lock()
 	defer c.server.lock.Unlock()
+	c.isClosed = true
 	return c.server.leave(c, errCut)
 }
 

@@ -32,11 +32,13 @@ type Hub struct {
 type server struct {
 	lock sync.Mutex
 	// moved is told of whatever a reader may wait for.
-	moved     *sync.Cond
-	pipe      *pipe
-	script    []string
-	highest   uint64
-	open      []*connection
+	moved   *sync.Cond
+	pipe    *pipe
+	script  []string
+	highest uint64
+	open    []*connection
+	// over are the watches that are over and whose bodies aren't closed yet.
+	over      []*connection
 	held      int
 	movesSelf bool
 	now       time.Duration

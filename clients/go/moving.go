@@ -145,8 +145,8 @@ const unreadFor = 30 * time.Second
 
 // Rest waits until nothing has happened on the hub for so long: no request came, and what
 // was written on watches has been read. Use it after a Pump where the controller has
-// goroutines of its own. A watch that nobody reads any more, and whose body isn't closed, is a
-// failure of the test.
+// goroutines of its own. A watch that nobody reads any more, or that is over, and whose body
+// isn't closed is a failure of the test.
 func (h *Hub) Rest(quiet time.Duration) {
 	h.t.Helper()
 	seen, stirred := h.stirred(), time.Now()
@@ -176,7 +176,7 @@ func (s *server) stirred() uint64 {
 }
 
 // unread is a watch whose reader hasn't read all that was written on it, or hasn't come back
-// for more; nil where there is none.
+// for more, or that is over and whose body isn't closed; nil where there is none.
 func (s *server) unread() *connection {
 	s.lock.Lock()
 	defer s.lock.Unlock()
@@ -185,6 +185,13 @@ func (s *server) unread() *connection {
 			return c
 		}
 	}
+	for at, c := range s.over {
+		if !c.isClosed {
+			s.over = s.over[at:]
+			return c
+		}
+	}
+	s.over = nil
 	return nil
 }
 
@@ -230,6 +237,9 @@ func (s *server) drop(c *connection) {
 		if one == c {
 			close(c.over)
 			s.open = append(s.open[:at], s.open[at+1:]...)
+			if c.isWatch && !c.isClosed {
+				s.over = append(s.over, c)
+			}
 			return
 		}
 	}
