@@ -189,7 +189,7 @@ fn marked_answer_to<S: Serves>(
     };
     let why = in_words(alloc, fault)?;
     match why.as_str() {
-        "Memory" | "Store" => Ok(None),
+        "Failed(Memory)" | "Failed(Store)" => Ok(None),
         _ => Ok(Some(why)),
     }
 }
