@@ -253,6 +253,13 @@ def over_a_copy(
         tries.end()
     if is_of_edits:
         return
+    lacking = quick.lacking(f"{folder}/tree")
+    if lacking:
+        # (each of what follows would fail, and hide why)
+        results.failed(
+            "what runs over the programs", f"not run: no {', '.join(lacking)}"
+        )
+        return
     stored_runs(folder, results)
     results.run("refused memory", [f"{folder}/tree/tools/failing_memory.py", "--gate"])
     quick.play_rows(f"{folder}/tree", results)

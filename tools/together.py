@@ -21,11 +21,11 @@ MAIN = """
 use programs::read_arguments;
 use std::process::ExitCode;
 
-/// Whether the program is called by this name.
-fn is_called(rt: &HostRuntime, name: &str) -> bool {
+/// Whether the program is called by this name, as a file's or as a command's.
+fn is_called(rt: &HostRuntime, file: &str, command: &str) -> bool {
     match read_arguments(rt) {
         Ok(arguments) => match arguments.first() {
-            Some(path) => path.as_str().ends_with(name),
+            Some(path) => path.as_str().ends_with(file) || path.as_str().ends_with(command),
             None => false,
         },
         Err(_) => false,
@@ -38,8 +38,8 @@ END = """    for _ in 0..u64::MAX {}
     ExitCode::SUCCESS
 }
 """
-CASE = """    if is_called(&rt, "/{0}") {{
-        return {1}::main(rt);
+CASE = """    if is_called(&rt, "{0}", "{1}") {{
+        return {2}::main(rt);
     }}
 """
 
@@ -102,11 +102,11 @@ def programs(tree: str, name: str, crates: list[str]) -> None:
     for crate in crates:
         heads.update(dict.fromkeys(as_module(tree, name, crate, "main.rt")))
     modules = "".join(f"mod {crate};\n" for crate in crates)
-    called = {crate: crate for crate in crates}
-    for other, crate in released.NAMES.items():
-        if crate in crates:
-            called[other.replace("-", "_")] = crate
-    cases = "".join(CASE.format(*it) for it in called.items())
+    called = {crate.replace("_", "-"): crate for crate in crates}
+    called |= {it: crate for it, crate in released.NAMES.items() if crate in crates}
+    cases = "".join(
+        CASE.format(it.replace("-", "_"), it, crate) for it, crate in called.items()
+    )
     with open(f"{tree}/crates/{name}/src/main.rt", "w", encoding="utf-8") as it:
         head = f"//! Several programs.\n{''.join(heads)}\n{modules}"
         it.write(f"{head}{MAIN}{cases}{END}")

@@ -44,8 +44,6 @@ from rows import Example, Row, Wrong, difference
 
 TYPES, SCRIPT = "replayed-types.json", "replayed-script.jsonl"
 FILES = ("--types", TYPES, "--script", SCRIPT)
-# The name by which programs that play files are called, which their usage tells.
-NAME = "ssa-replay"
 # A line that applies a body.
 GOOD = '{"apply":{"body":null,"force":false,"manager":"alice","target":"/x"}}'
 # What `offline` asks of the system (of x86-64), by its numbers: no more rights by a program, a filter of calls, its answers.
@@ -168,7 +166,7 @@ class Session:
         before: Callable[[], None] | None = None,
     ) -> Ran:
         """Runs a program that plays the files."""
-        words = [NAME, *FILES, *options.split()]
+        words = [name, *FILES, *options.split()]
         return self.run(name, words, out=out, before=before)
 
     def both(self, options: str) -> Ran:
