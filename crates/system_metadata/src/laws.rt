@@ -1,7 +1,7 @@
 //! Laws of moments, uids and generated names. The functions do nothing; what each promises is the law.
 
 ghost use Rattle.system_metadata.specs.GeneratedNameLaws.{DifferByNumber};
-ghost use Rattle.system_metadata.specs.MomentLaws.{NeverFalls, IsOneText};
+ghost use Rattle.system_metadata.specs.MomentLaws.{NeverFalls, IsOneText, IsShownSo};
 ghost use Rattle.system_metadata.specs.UidLaws.{AreApart};
 
 /// Of one epoch, a later tick has no earlier moment.
@@ -9,9 +9,10 @@ pub fn moments_never_fall()
     ensures { NeverFalls }
 {}
 
-/// A moment is written in one way.
+/// A moment is written in one way, and as jiff shows it at UTC.
 pub fn moments_have_one_text()
-    ensures { IsOneText }
+    ensures one { IsOneText }
+    ensures shown { IsShownSo }
 {}
 
 /// Two revisions of one epoch never have one uid, nor has one revision of two epochs, nor two of two.

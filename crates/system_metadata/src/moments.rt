@@ -1,7 +1,7 @@
 //! Moments: the seconds of events, and their texts (RFC 3339, section 5.6).
 
 ghost use Rattle.std.specs.Prelude.{◌≡◌, IfOk, string_bytes};
-ghost use Rattle.system_metadata.specs.Moments.{second_at, IsMoment};
+ghost use Rattle.system_metadata.specs.Moments.{second_at, moment_text};
 
 use jiff::Timestamp;
 use jiff::tz::Offset;
@@ -19,7 +19,7 @@ pub fn second_at(epoch: u64, milliseconds: u64) -> u64
 
 /// The moment of an event in UTC, as `2030-01-01T00:00:00Z`.
 pub fn moment(alloc: Global, epoch: u64, milliseconds: u64) -> Result<String, AllocError>
-    ensures { IfOk result (λ text. IsMoment (second_at epoch milliseconds) (string_bytes text)) }
+    ensures { IfOk result (λ text. string_bytes text ≡ moment_text (second_at epoch milliseconds)) }
 {
     let second = second_at(epoch, milliseconds);
     let Ok(timestamp) = Timestamp::from_second(second as i64) else {
