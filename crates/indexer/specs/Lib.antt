@@ -2,6 +2,7 @@ pub mod Keys
 pub mod Postings
 pub mod Texts
 pub mod Objects
+pub mod Namespaces
 pub mod Kept
 pub mod Names
 pub mod FaultViews

@@ -7,6 +7,7 @@
 //! Stands on std alone.
 #![tactic(auto)]
 
+mod by_namespace;
 mod entry;
 mod index_by;
 mod indexer;
@@ -16,6 +17,7 @@ mod object;
 mod postings;
 mod texts;
 
+pub use by_namespace::ByNamespace;
 pub use index_by::IndexBy;
 pub use indexer::{Indexer, IndexerFault};
 pub use law::indexes_follow;

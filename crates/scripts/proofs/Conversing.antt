@@ -12,6 +12,7 @@ use Rattle.std.proofs.Math.Seq.{take-append_seam}
 use Rattle.std.proofs.lemmas.List.{length-append, length-map}
 use Rattle.std.proofs.lemmas.List.Elements.{All-append, All-cons, All-nil}
 use Rattle.indexer.specs.Objects.{Stored, shared_of}
+use Rattle.indexer.specs.declared.by_namespace.ByNamespace.{ByNamespace}
 use Rattle.summary.specs.Summary.{counts_in}
 use Rattle.world_laws.specs.Reports as laws
 use Rattle.world_laws.specs.Tasks.{Task}
@@ -22,7 +23,6 @@ use Rattle.world.specs.declared.refusal.Refusal as refusals
 use Rattle.world.specs.declared.step.Step.{Step}
 use Rattle.world.specs.declared.trace.Report as shown
 use Rattle.world.specs.declared.world.World as worlds
-use Rattle.scripts.specs.declared.by_namespace.ByNamespace.{ByNamespace}
 use Rattle.scripts.specs.Piped.{Answered, AreLines, Converses, IsAnswered, IsAnsweredPrefix, IsAt, IsCut, IsPiece, IsTurn, Part, ReadsNext, Represents, Turns, TurnsPrefix, ended, event_parts, last_part, last_text, opened, part_text, report_part, report_text, report_words, step_text, written_part}
 
 -- ---- the text of an event

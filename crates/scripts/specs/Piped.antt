@@ -11,7 +11,9 @@ use Rattle.hex.specs.Hex.{encode_lower}
 use Rattle.serde_json.specs.Data.{object, string}
 use Rattle.serde_json.specs.Written.{compact_text}
 use Rattle.httpedge.specs.Connections.{written_on}
+use Rattle.indexer.specs.Namespaces.{namespace_keys}
 use Rattle.indexer.specs.Objects.{Stored}
+use Rattle.indexer.specs.declared.by_namespace.ByNamespace.{ByNamespace}
 use Rattle.reflector.specs.Client.{kept}
 use Rattle.api_types.specs.TypesFile.{ServedShape}
 use Rattle.summary.specs.Apply.{count_members}
@@ -31,10 +33,8 @@ use Rattle.world.specs.declared.trace.Report as shown
 use Rattle.world.specs.declared.world.World as worlds
 use Rattle.scripts.specs.Asking.{Question, asks_next, asks_objects, asked_on}
 use Rattle.scripts.specs.AskedTexts.{move_text, object_text}
-use Rattle.scripts.specs.Plays.{namespace_keys}
 use Rattle.scripts.specs.Script.{IsEventLine}
 use Rattle.programs.specs.declared.run_fault.RunFault.TheVariants as run
-use Rattle.scripts.specs.declared.by_namespace.ByNamespace.{ByNamespace}
 use Rattle.scripts.specs.declared.program_fault.ProgramFault.{ProgramFault}
 use Rattle.scripts.specs.declared.program_fault.ProgramFault.TheVariants as fault
 

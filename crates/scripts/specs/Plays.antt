@@ -1,6 +1,7 @@
 -- The play of a script: a run of its events, and what is printed of it.
 use Rattle.std.specs.Prelude.{◌≡◌, ◌⊎◌, ◌≢◌, ℕ, List, [], ◌∷◌, Option, Some, None, Result, Ok, Err, ⊤, codes}
-use Rattle.indexer.specs.Objects.{Stored}
+use Rattle.indexer.specs.Namespaces.{namespace_keys}
+use Rattle.indexer.specs.declared.by_namespace.ByNamespace.{ByNamespace}
 use Rattle.api_types.specs.TypesFile.{ServedShape}
 use Rattle.world_laws.specs.Tasks.{RunSettings}
 use Rattle.world_laws.specs.World.{WorldEvent}
@@ -9,15 +10,10 @@ use Rattle.world.specs.declared.fault.WorldFault as worlds
 use Rattle.world.specs.declared.fault.WorldFault.TheVariants as stopped
 use Rattle.world.specs.declared.trace.Trace.{Trace}
 use Rattle.scripts.specs.Output.{PrintsPrefix, Prints, parts_of}
-use Rattle.scripts.specs.declared.by_namespace.ByNamespace.{ByNamespace}
 use Rattle.scripts.specs.declared.replay_fault.ReplayFault.{ReplayFault}
 use Rattle.scripts.specs.declared.replay_fault.ReplayFault.TheVariants.{Memory, Store, Settings, Link, Write}
 
 -- ---- the run
-
--- an object's key in the index is its namespace
-abbrev pub namespace_keys : ByNamespace → Stored → List (List ℕ)
-namespace_keys b o = o.namespace ∷ []
 
 abbrev pub index_names : List (List ℕ)
 index_names = codes "namespace" ∷ []

@@ -11,10 +11,10 @@ ghost use Rattle.scripts.specs.Script.{IsEventLine};
 
 use crate::answer_text::{bad_line, next_text, objects_text, step_text};
 use crate::asking::{Question, question_of};
-use crate::by_namespace::ByNamespace;
 use crate::line_fault::{LineFault, line_fault};
 use crate::replay_fault::ReplayFault;
 use crate::script::read_line;
+use indexer::ByNamespace;
 use std::alloc::{AllocError, Global};
 use world::{OverMemory, World, WorldEvent};
 

@@ -15,7 +15,6 @@ mod answering;
 mod apply_line;
 mod arguments;
 mod asking;
-mod by_namespace;
 mod line_fault;
 mod over_loopback;
 mod piping;

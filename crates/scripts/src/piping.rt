@@ -16,11 +16,11 @@ ghost use Rattle.scripts.specs.Piped.{Converses, EndsPlaying, IsAnswered, IsAnsw
 
 use crate::answering::answer_to;
 use crate::arguments::ClientOptions;
-use crate::by_namespace::ByNamespace;
 use crate::program_fault::ProgramFault;
 use crate::replay_fault::ReplayFault;
 use crate::settings::settings_of;
 use api_types::Types;
+use indexer::ByNamespace;
 use programs::RunFault;
 use std::alloc::{AllocError, Global};
 use std::io;

@@ -6,7 +6,7 @@ use crate::piping::pipe;
 use crate::playing::play_script;
 use crate::program_fault::ProgramFault;
 use api_types::Types;
-use programs::{RunFault, discovered_if, end_with, read_types, unread_path};
+use programs::{RunFault, end_with, profile_asked, read_types, unread_path};
 use std::io::{BufReader, BufWriter, Write};
 use std::net::Net;
 use std::process::ExitCode;
@@ -97,7 +97,7 @@ fn run<R: Files + Print + AllocGlobal, L: Link>(
     arguments: &[String],
 ) -> Result<(), ProgramFault> {
     let options = options(rt.alloc(), player, arguments)?;
-    let types = discovered_if(options.discovery, read_types(rt, options.types)?);
+    let types = read_types(rt, profile_asked(options.discovery), options.types)?;
     let script = read_script(rt, options.script)?;
     print_play(rt, types, &options, script.as_str(), link)
 }
@@ -130,7 +130,7 @@ fn run_pipe<R: Files + Input + Print + AllocGlobal>(
     arguments: &[String],
 ) -> Result<(), ProgramFault> {
     let options = pipe_options(rt.alloc(), PIPE, arguments)?;
-    let types = discovered_if(options.discovery, read_types(rt, options.types)?);
+    let types = read_types(rt, profile_asked(options.discovery), options.types)?;
     let Ok(mut reader) = BufReader::new(rt.alloc(), rt.reader()) else {
         return Err(ProgramFault::Run(RunFault::Memory));
     };

@@ -7,10 +7,10 @@ ghost use Rattle.world_laws.specs.Tasks.{settings_fault};
 ghost use Rattle.world.specs.Views.{event_seen, settings_seen};
 ghost use Rattle.scripts.specs.Plays.{Answers, Plays, PlaysPrefix, index_names};
 
-use crate::by_namespace::ByNamespace;
 use crate::printing::print;
 use crate::replay_fault::ReplayFault;
 use api_types::Types;
+use indexer::ByNamespace;
 use std::alloc::Global;
 use std::io::Write;
 use world::{Link, Settings, WorldEvent, run_over};

@@ -1,9 +1,9 @@
 use Rattle.std.proofs.Common.{◌∙◌, ap, refl}
 use Rattle.std.specs.List.{flat_map}
 use Rattle.std.specs.Prelude.{suc}
+use Rattle.indexer.specs.Namespaces.{namespace_keys}
 use Rattle.world.specs.Views.{event_seen}
 use Rattle.scripts.specs.Piped.{event_parts, part_text}
-use Rattle.scripts.specs.Plays.{namespace_keys}
 use Rattle.scripts.proofs.Conversing.{step_emitted}
 use Rattle.scripts.proofs.answering.answer_to_event.Goals as goal
 

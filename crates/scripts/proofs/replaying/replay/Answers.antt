@@ -2,6 +2,8 @@ use Rattle.std.proofs.Common.{◌≡◌, ◌∙◌, [], ◌∷◌, List, Err, ap
 use Rattle.std.specs.Prelude.{codes}
 use Rattle.std.proofs.KnownBytes.{Appends-nil}
 use Rattle.std.proofs.lemmas.Result.{on_err_weaker, on_ok_weaker}
+use Rattle.indexer.specs.Namespaces.{namespace_keys}
+use Rattle.indexer.specs.declared.by_namespace.ByNamespace.{ByNamespace}
 use Rattle.api_types.specs.Served.{types_view}
 use Rattle.api_types.specs.TypesFile.{ServedShape}
 use Rattle.world_laws.specs.Tasks.{RunSettings, settings_fault}
@@ -9,8 +11,7 @@ use Rattle.world_laws.specs.World.{WorldEvent}
 use Rattle.world.specs.Views.{event_seen, settings_seen}
 use Rattle.world.specs.Traces.{IsTraceOf}
 use Rattle.world.specs.declared.trace.Trace.{Trace}
-use Rattle.scripts.specs.Plays.{Answers, IsRun, index_names, namespace_keys}
-use Rattle.scripts.specs.declared.by_namespace.ByNamespace.{ByNamespace}
+use Rattle.scripts.specs.Plays.{Answers, IsRun, index_names}
 use Rattle.scripts.proofs.Endings.{answers_by_run, answers_output, output_spares_link, run_spares_link, where_it_fails}
 use Rattle.scripts.proofs.replaying.replay.Goals as goal
 

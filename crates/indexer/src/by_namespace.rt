@@ -1,15 +1,16 @@
-//! The index of a run's client.
+//! The index that most clients have: by namespace. What an index is stands in `index_by`.
 
-use indexer::{IndexBy, Object};
+use crate::index_by::IndexBy;
+use crate::object::Object;
 use std::alloc::{AllocError, Global};
 
-/// An index by the object's namespace.
-#[derive(Drop)]
-pub(crate) struct ByNamespace;
+/// An index by the object's namespace; its name is `namespace`.
+#[derive(Debug, Drop)]
+pub struct ByNamespace;
 
 impl IndexBy for ByNamespace {
     ghost use Rattle.std.specs.Prelude.{codes};
-    ghost use Rattle.scripts.specs.Plays.{namespace_keys};
+    ghost use Rattle.indexer.specs.Namespaces.{namespace_keys};
 
     ghost title = { λ _. codes "namespace" };
 
