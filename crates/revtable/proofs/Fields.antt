@@ -1,9 +1,11 @@
 -- What stands in the tables after a call: the history that it is.
-use Rattle.std.proofs.Common.{◌≡◌, ℕ, suc, ◌+◌, ◌≤◌, ◌<◌, List, [], ◌∷◌, ◌++◌, length, min, max, None, refl, sym, ap, ap₂, subst, ◌∙◌, Option, Bor, option_map, arith, Some, Bool, true, false, cond, not, ◌&&◌, is_some, true≢false}
+use Rattle.std.proofs.Common.{◌≡◌, ℕ, suc, ◌+◌, ◌≤◌, ◌<◌, List, [], ◌∷◌, ◌++◌, length, map, min, max, None, refl, sym, ap, ap₂, subst, ◌∙◌, Option, Bor, option_map, arith, Some, Bool, true, false, cond, not, ◌&&◌, is_some, true≢false}
 use Rattle.std.specs.Prelude.{is_none}
 use Rattle.std.specs.FinMap as fin
 use Rattle.std.specs.List.{AllByRecursion}
 use Rattle.history.specs.History.{Key, Change, History, IsRising, is_same_key, last_revision, current_objects, written}
+use Rattle.history.specs.declared.write.Write.{Write}
+use Rattle.history.specs.Read.{write_of}
 use Rattle.history.specs.Kept.{IsPruned, between_marks, kept, pruned}
 use Rattle.history.specs.Whole.{AreThere}
 use Rattle.history.specs.Writes.{changes_by, written_all}
@@ -11,7 +13,7 @@ use Rattle.history.proofs.Kept.{pruned_is}
 use Rattle.history.proofs.Revisions.{rising-filter}
 use Rattle.history.proofs.Writes.{kept_all, there_all}
 use Rattle.revtable.specs.Rows.{IsOrdered, AreBelow}
-use Rattle.revtable.specs.Spans.{Span, Stored, changes_in, end_at, ended_by, history_of, next_of, pruned_in, put_in, spans_of, spans_until, stored_of, without_ended, IsWritten}
+use Rattle.revtable.specs.Spans.{Span, Stored, changes_in, end_at, ended_by, history_of, next_of, pruned_in, rows_put, spans_of, spans_until, stored_of, without_ended, IsWritten}
 use Rattle.revtable.proofs.Forgets.{kept_there, without_is}
 use Rattle.revtable.proofs.Merged.{changes_back}
 use Rattle.revtable.proofs.Nexts.{all_begin}
@@ -66,6 +68,10 @@ written_rows h p there =
 pub stored_back : (st : Stored) → IsWritten st → stored_of (history_of st) ≡ st
 stored_back st w = ap (λ l. record { spans = l; current = st.current; compacted = st.compacted }) (sym w.rows)
 
+-- the rows once a change is written, and the two numbers set
+abbrev pub put_in : ℕ → ℕ → Key → Option (List ℕ) → Stored → Stored
+put_in current compacted k body st = record { spans = (rows_put current k body st).spans; current = current; compacted = compacted }
+
 pub put_is : (n c : ℕ) (h : History) (k : Key) (body : Option (List ℕ)) → n ≡ suc h.current → c ≡ h.compacted → put_in n c k body (stored_of h) ≡ stored_of (written h k body)
 put_is n c h k body next low =
     ap₂ (λ p q. put_in p q k body (stored_of h)) next low
@@ -77,14 +83,6 @@ pub after_puts : (st : Stored) (ws : List (Key × Option (List ℕ))) → IsWrit
 after_puts st ws w fits there =
     let h = history_of st in
     written_rows (written_all h ws) (kept_all h ws w.pruned fits) (there_all h ws w.pruned.is.rising w.there there)
-
-pub after_put : (n : ℕ) (st : Stored) (k : Key) (body : Option (List ℕ)) → IsWritten st → n ≡ suc st.current → n ≤ last_revision → (body ≡ None → fin.contains_key (current_objects (history_of st)) k ≡ true)
-    → IsWritten (put_in n st.compacted k body st) × (history_of (put_in n st.compacted k body st) ≡ written (history_of st) k body)
-after_put n st k body w next fits there =
-    let h = history_of st in
-    let all = after_puts st ((k, body) ∷ []) w (omega arith) (there, tt) in
-    let same : put_in n st.compacted k body st ≡ stored_of (written h k body) = ap (put_in n st.compacted k body) (sym (stored_back st w)) ∙ put_is n st.compacted h k body next refl in
-    (subst IsWritten (sym same) all.0, ap history_of same ∙ all.1)
 
 pub still_none : {X Y : Type 0} (f : X → Y) (o : Option X) → is_none o ≡ is_none (option_map f o)
 still_none f None = refl
@@ -101,15 +99,13 @@ none_back : (o : Option (Bor (List ℕ))) → option_map (λ b. b.now) o ≡ Non
 none_back None e = refl
 none_back (Some b) e = absurd cc
 
--- the table's fields hold the numbers too
-pub put_stands : (n compacted : ℕ) (log new : Stored) (self : History) (k : Key) (body : Option (Bor (List ℕ))) → IsWritten log → compacted ≡ log.compacted → history_of log ≡ self → n ≡ suc self.current → n ≤ last_revision
-    → (body ≡ None → fin.contains_key (current_objects self) k ≡ true) → new ≡ put_in n compacted k (option_map (λ b. b.now) body) log
-    → (IsWritten new × (n ≡ new.current) × (compacted ≡ new.compacted)) × (history_of new ≡ written self k (option_map (λ b. b.now) body))
-put_stands n compacted log new self k body w low is next fits there made =
-    let b = option_map (λ b. b.now) body in
-    let e : new ≡ put_in n log.compacted k b log = made ∙ ap (λ p. put_in n p k b log) low in
-    let all = after_put n log k b w (next ∙ ap (λ (h : History). suc h.current) (sym is)) fits (λ none. ap (λ h. fin.contains_key (current_objects h) k) is ∙ there (none_back body none)) in
-    ((subst IsWritten (sym e) all.0, sym (ap (λ (st : Stored). st.current) e), low ∙ sym (ap (λ (st : Stored). st.compacted) e)), ap history_of e ∙ all.1 ∙ ap (λ h. written h k b) is)
+-- one write
+pub one_there : (h : History) (w : Write) (k : Key) (body : Option (Bor (List ℕ))) → write_of w ≡ (k, option_map (λ b. b.now) body) → (body ≡ None → fin.contains_key (current_objects h) k ≡ true)
+    → AreThere (current_objects h) (changes_by h.current (map write_of (w ∷ [])))
+one_there h w k body is there = subst (λ p. AreThere (current_objects h) (changes_by h.current (p ∷ []))) (sym is) ((λ none. there (none_back body none)), tt)
+
+pub one_written : (h : History) (w : Write) (k : Key) (body : Option (List ℕ)) → write_of w ≡ (k, body) → written_all h (map write_of (w ∷ [])) ≡ written h k body
+one_written h w k body is = ap (λ p. written_all h (p ∷ [])) is
 
 -- ---- once it is compacted
 

@@ -7,8 +7,8 @@ use Rattle.history.specs.Read.{key_of, write_of}
 use Rattle.history.specs.Whole.{AreThere}
 use Rattle.history.specs.Writes.{changes_by, written_all}
 use Rattle.history.proofs.Writes.{compacted_all, current_all, rising_all, written_all-push}
-use Rattle.revtable.specs.Spans.{Stored, history_of, put_in, rows_put, spans_of, stored_of, IsWritten}
-use Rattle.revtable.proofs.Fields.{after_puts, put_is}
+use Rattle.revtable.specs.Spans.{Stored, history_of, rows_put, spans_of, stored_of, IsWritten}
+use Rattle.revtable.proofs.Fields.{after_puts, put_in, put_is}
 
 -- once the first i are written
 abbrev pub so_far : History → List Write → ℕ → History

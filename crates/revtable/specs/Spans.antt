@@ -113,11 +113,6 @@ history_of st = record { changes = changes_in st.spans; current = st.current; co
 abbrev pub rows_put : ℕ → Key → Option (List ℕ) → Stored → Stored
 rows_put r k body st = record { spans = ended_by k r (is_none body) st.spans ++ spans_until k r body None; current = st.current; compacted = st.compacted }
 
--- and the two numbers too
-abbrev pub put_in : ℕ → ℕ → Key → Option (List ℕ) → Stored → Stored
-put_in current compacted k body st =
-    record { spans = (rows_put current k body st).spans; current = current; compacted = compacted }
-
 -- once it is compacted
 abbrev pub pruned_in : ℕ → ℕ → Stored → Stored
 pruned_in current compacted st = record { spans = without_ended compacted st.spans; current = current; compacted = compacted }

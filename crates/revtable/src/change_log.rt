@@ -1,13 +1,13 @@
 //! What stands in the two tables of a database. Its store is any that never lost a page (`IsAlwaysClean`): the proofs say what
 //! they need of it, and the prover is faster than where the store is named. `memory` has the one that a table stands on.
 
-ghost use Rattle.std.specs.Prelude.{◌≡◌, [], ℕ, ◌+◌, ◌^◌, ◌<◌, IfOk, OnOk, OnErr, length, map, option_map, false};
+ghost use Rattle.std.specs.Prelude.{◌≡◌, [], ℕ, ◌+◌, ◌^◌, ◌<◌, IfOk, OnOk, OnErr, length, map, false};
 ghost use Rattle.history.specs.History.{IsRising};
-ghost use Rattle.history.specs.Read.{entry_of, key_of, write_of};
+ghost use Rattle.history.specs.Read.{entry_of, write_of};
 ghost use Rattle.history.specs.Writes.{written_all};
 ghost use Rattle.revtable.specs.Kept.{AreFirstKept, IsBare};
 ghost use Rattle.revtable.specs.Rows.{the_schema, command_in, IsAlwaysClean, IsAnswer, IsOrdered};
-ghost use Rattle.revtable.specs.Spans.{changes_in, history_of, pruned_in, put_in, spans_of, stored_of};
+ghost use Rattle.revtable.specs.Spans.{changes_in, history_of, pruned_in, spans_of, stored_of};
 ghost use Rattle.sqlite.specs.Given.{IsPlain};
 ghost use Rattle.sqlite.specs.Held.{state};
 ghost use Rattle.sqlite.specs.Listing.{reads_listing, understood};
@@ -19,7 +19,7 @@ use crate::keep::Keep;
 use crate::reading::read_marks;
 use crate::tables::{begin_marks, make_index, make_marks, make_objects};
 use crate::{compaction, first_kept, writing};
-use history::{Entry, Key, Marks, Write};
+use history::{Entry, Marks, Write};
 use sqlite::types::ValueRef;
 use sqlite::{Alter, Connection, Error, Row};
 use std::alloc::Global;
@@ -72,20 +72,6 @@ impl<S: Alter + Drop> ChangeLog<S> {
 
 // These ask no `Drop` of the store, which each caller that names one would have to prove.
 impl<S: Alter> ChangeLog<S> {
-    /// Writes the change of a key, at the revision that is current once it is written: all of it, or nothing.
-    pub(crate) fn put(&mut self, marks: Marks, key: &Key, body: Option<&str>) -> Result<(), Fault>
-        requires current { marks.current < 2 ^ 63 }
-        requires compacted { marks.compacted < 2 ^ 63 }
-        requires rising { (top : ℕ) × IsRising 0 (changes_in self.old.spans) top × (top < marks.current) }
-        requires rows { self.old.spans ≡ spans_of (changes_in self.old.spans) }
-        ensures ok { OnOk result (self.new ≡ put_in marks.current marks.compacted (key_of key.now) (option_map (λ b. b.now) body.entry) self.old) }
-        ensures err { OnErr result (self.new ≡ self.old) }
-    {
-        writing::put(&mut self.base, marks, key, body)?;
-        self.seen = Snapshot::of(&self.base);
-        Ok(())
-    }
-
     /// Writes several changes, one after the other, from these numbers on: all of them, or none.
     pub(crate) fn put_all(&mut self, marks: Marks, writes: &[Write]) -> Result<(), Fault>
         requires current { marks.current ≡ self.old.current }

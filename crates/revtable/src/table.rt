@@ -23,8 +23,9 @@ use crate::reading::read_object;
 use history::{Change, Entry, Key, LAST_REVISION, Marks, Object, Write};
 use sqlite::Row;
 use sqlite::types::ValueRef;
-use std::alloc::Global;
+use std::alloc::{AllocError, Global};
 use std::marker::Model;
+use std::slice;
 
 /// The most rows that a statement is asked for.
 const MOST_ROWS: u64 = LAST_REVISION;
@@ -60,6 +61,22 @@ impl Drop for Table {
             compacted: _,
         } = self;
     }
+}
+
+/// A write with copies of a key and of a body.
+fn write_of(alloc: Global, key: &Key, body: Option<&str>) -> Result<Write, AllocError>
+    ensures { IfOk result (λ w. write_of w ≡ (key_of key.now, option_map (λ b. b.now) body.entry)) }
+{
+    let key = Key {
+        kind: key.kind,
+        namespace: key.namespace.clone()?,
+        name: key.name.clone()?,
+    };
+    let body = match body {
+        Some(body) => Some(String::from_str(alloc, body)?),
+        None => None,
+    };
+    Ok(Write { key, body })
 }
 
 impl Table {
@@ -106,14 +123,8 @@ impl Table {
         ensures ok { OnOk result (self.new ≡ written self.old (key_of key.now) (option_map (λ b. b.now) body.entry)) }
         ensures err { OnErr result (self.new ≡ self.old) }
     {
-        let compacted = self.compacted;
-        let marks = Marks {
-            current: revision,
-            compacted,
-        };
-        self.log.put(marks, key, body)?;
-        self.current = revision;
-        Ok(())
+        let write = write_of(self.alloc, key, body)?;
+        self.put_all(slice::from_ref(&write))
     }
 
     /// Adds several changes, as `put` of each in turn, from the next revision on: all of them, or none.

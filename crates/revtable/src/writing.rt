@@ -1,4 +1,4 @@
-//! A write, or several, as one transaction: the row that stands under the key ends, a row is added for the new object, and the two
+//! Writes as one transaction: for each the row that stands under its key ends, and a row is added for the new object; then the two
 //! numbers are set. If a statement fails, those before it are undone. It is written over any store that never lost a page
 //! (`IsAlwaysClean`); the table's, over files in memory, is one. The code here doesn't name that one, so the proofs say what
 //! they need of a store, and the prover is done sooner.
@@ -9,7 +9,7 @@ ghost use Rattle.history.specs.History.{Change, History, IsRising};
 ghost use Rattle.history.specs.Read.{key_of, write_of};
 ghost use Rattle.history.specs.Writes.{written_all};
 ghost use Rattle.revtable.specs.Rows.{stored_in, Amid, AreBelow, IsAlwaysClean, IsOrdered, Keeps, Undone};
-ghost use Rattle.revtable.specs.Spans.{Stored, ended_by, ended_from, last_span, put_in, rows_put, spans_of, spans_until, stored_of};
+ghost use Rattle.revtable.specs.Spans.{Stored, ended_by, ended_from, last_span, rows_put, spans_of, spans_until, stored_of};
 ghost use Rattle.sqlite.specs.Held.{state};
 ghost use Rattle.sqlite.specs.declared.types.Value.TheVariants.{Int};
 
@@ -157,50 +157,6 @@ fn write_rows<S: Alter>(
     Ok(())
 }
 
-/// Writes the change of a key at the revision that is current once it is written.
-fn write_change<S: Alter>(
-    writing: &mut Transaction<'_, S>,
-    marks: Marks,
-    key: &Key,
-    body: Option<&str>,
-) -> Result<(), Fault>
-    requires clean { IsAlwaysClean S.Store }
-    requires current { marks.current < 2 ^ 63 }
-    requires compacted { marks.compacted < 2 ^ 63 }
-    ensures same_reference { writing.new.conn.ghost_name ≡ writing.old.conn.ghost_name }
-    ensures ok { (start st : Stored) (cs : List Change) (top : ℕ) → IsRising 0 cs top → top < marks.current → st.spans ≡ spans_of cs → Amid start st (state S.Store writing.old.conn.now)
-        → OnOk result (Amid start (put_in marks.current marks.compacted (key_of key.now) (option_map (λ b. b.now) body.entry) st) (state S.Store writing.new.conn.now)) }
-    ensures err { (start st : Stored) (cs : List Change) (top : ℕ) → IsRising 0 cs top → top < marks.current → st.spans ≡ spans_of cs → Amid start st (state S.Store writing.old.conn.now)
-        → OnErr result (Undone start (state S.Store writing.new.conn.now)) }
-{
-    write_rows(writing, marks.current, key, body)?;
-    set_marks(writing, marks)?;
-    Ok(())
-}
-
-/// The same as one transaction: if a statement fails, those before it are undone.
-pub(crate) fn put<S: Alter>(
-    base: &mut Connection<S>,
-    marks: Marks,
-    key: &Key,
-    body: Option<&str>,
-) -> Result<(), Fault>
-    requires clean { IsAlwaysClean S.Store }
-    requires current { marks.current < 2 ^ 63 }
-    requires compacted { marks.compacted < 2 ^ 63 }
-    requires settled { base.old.in_transaction ≡ false }
-    ensures ok { (st : Stored) (cs : List Change) (top : ℕ) → IsRising 0 cs top → top < marks.current → st.spans ≡ spans_of cs → Keeps st (state S.Store base.old)
-        → OnOk result (Keeps (put_in marks.current marks.compacted (key_of key.now) (option_map (λ b. b.now) body.entry) st) (state S.Store base.new)
-        × (stored_in (state S.Store base.new).now ≡ put_in marks.current marks.compacted (key_of key.now) (option_map (λ b. b.now) body.entry) st)) }
-    ensures err { (st : Stored) (cs : List Change) (top : ℕ) → IsRising 0 cs top → top < marks.current → st.spans ≡ spans_of cs → Keeps st (state S.Store base.old)
-        → OnErr result (Keeps st (state S.Store base.new)) }
-{
-    let mut writing = base.transaction();
-    write_change(&mut writing, marks, key, body)?;
-    writing.commit()?;
-    Ok(())
-}
-
 /// Writes several changes, each at the revision after the one before; the first is the one after these numbers, which are set once.
 fn write_changes<S: Alter>(
     writing: &mut Transaction<'_, S>,
@@ -228,7 +184,7 @@ fn write_changes<S: Alter>(
     Ok(())
 }
 
-/// The same as one transaction: if a statement fails, all before it are undone.
+/// The same as one transaction: if a statement fails, those before it are undone.
 pub(crate) fn put_all<S: Alter>(
     base: &mut Connection<S>,
     marks: Marks,
