@@ -1,4 +1,5 @@
 pub mod Bounds
+mod ByName
 pub mod Joining
 pub mod NextPages
 pub mod Reading

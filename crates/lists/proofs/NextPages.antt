@@ -81,7 +81,7 @@ next_is_last of values s k is = last_of (page_limit values.limit) (left_after (o
 pass_listed : (of : Collection) (requirements : List Requirement) (s : Objects) → Pass (is_within of.kind of.namespace) (whole_list of requirements s)
 pass_listed of requirements s =
     subst (Pass (is_within of.kind of.namespace)) (sym (entries-selected (selection_of of.kind of.namespace requirements) s))
-    (pass_wanted (is_within of.kind of.namespace) (λ e. selects requirements (attributes_of e.1.body)) (fin.entries s))
+    (pass_wanted (is_within of.kind of.namespace) (λ e. selects requirements (attributes_of e.0 e.1.body)) (fin.entries s))
 
 -- it is of the list's type
 kind_of_last : (of : Collection) (values : Values) (s : Objects) (k : Key) → (page_of of values s).next ≡ Some k → k.kind ≡ of.kind

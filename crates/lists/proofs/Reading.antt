@@ -1,5 +1,5 @@
 -- Rows, a few at a time, and the page that they make.
-use Rattle.std.proofs.Common.{◌≡◌, ℕ, zero, suc, ◌+◌, ◌-◌, ◌<◌, ◌≤◌, Bool, true, false, cond, List, [], ◌∷◌, ◌++◌, length, take, map, min, ◌==◌, refl, sym, ap, subst, ◌∙◌, Option, Some, None, option_map, arith, append_assoc, append-nil, length-append}
+use Rattle.std.proofs.Common.{◌≡◌, ℕ, zero, suc, ◌+◌, ◌-◌, ◌<◌, ◌≤◌, Bool, true, false, cond, List, [], ◌∷◌, ◌++◌, length, take, map, min, ◌==◌, refl, sym, ap, subst, ◌∙◌, Option, Some, None, Ok, Err, Result, IfOk, option_map, arith, append_assoc, append-nil, length-append}
 use Rattle.std.proofs.Common.{le-ltb, ltb-false, ltb-true, lt-ltb, true≢false}
 use Rattle.std.specs.Prelude.{nat_lt, slice_get}
 use Rattle.std.proofs.lemmas.List.{length-map, length-take, map-append, take-map}
@@ -9,11 +9,14 @@ use Rattle.history.specs.Read.{entry_of, key_of}
 use Rattle.history.specs.Page.{listed, page}
 use Rattle.history.specs.Seen.{SeenPage, limited, seen_page, last_key}
 use Rattle.history.proofs.Leading.{ended, more}
+use Rattle.history.proofs.Lists.{filter_like}
 use Rattle.history.proofs.Paging.{wanted_first, wanted_past}
 use Rattle.history.specs.declared.object.Entry.{Entry}
+use Rattle.revtable.specs.Kept.{kept_among}
+use Rattle.selector.specs.Fields.{LabelsDecide}
 use Rattle.selector.specs.Requirement.{Requirement, selects}
 use Rattle.params.specs.Values.{Token}
-use Rattle.lists.specs.Labels.{attributes_of, selection_of}
+use Rattle.lists.specs.Labels.{attributes_of, labels_of, selection_of}
 use Rattle.lists.specs.Lists.{key_after, max_page, page_limit}
 use Rattle.lists.specs.Rows.{Start, asked_for, is_over, matching, place_of, rows_left, to_read}
 
@@ -85,13 +88,22 @@ pub matched_more : (requirements : List Requirement) (whole found new rows rest 
     → new ≡ found ++ matching requirements (e ∷ []) → new ++ matching requirements rest ≡ whole
 matched_more requirements whole found new rows rest e so_far is more =
     ap (λ xs. xs ++ matching requirements rest) more ∙ append_assoc found (matching requirements (e ∷ [])) (matching requirements rest)
-    ∙ ap (λ xs. found ++ xs) (sym (filter-append (λ e. selects requirements (attributes_of e.1.body)) (e ∷ []) rest) ∙ ap (matching requirements) (sym is)) ∙ so_far
+    ∙ ap (λ xs. found ++ xs) (sym (filter-append (λ e. selects requirements (attributes_of e.0 e.1.body)) (e ∷ []) rest) ∙ ap (matching requirements) (sym is)) ∙ so_far
 
 pub pushed_if : (b : Bool) (row : Entry) (found : List Entry) → b ≡ true → map entry_of (found ++ row ∷ []) ≡ map entry_of found ++ cond b (entry_of row ∷ []) []
 pushed_if b row found is = rw is (map-append entry_of found (row ∷ []))
 
 pub not_pushed : (b : Bool) (row : Entry) (found : List Entry) → b ≡ false → map entry_of found ≡ map entry_of found ++ cond b (entry_of row ∷ []) []
 not_pushed b row found is = rw is (sym (append-nil (map entry_of found)))
+
+-- where the labels decide, those that are kept by them
+pub by_labels : (requirements : List Requirement) → LabelsDecide requirements → (es : Entries) → kept_among (λ text. selects requirements (labels_of text)) es ≡ matching requirements es
+by_labels requirements decide es =
+    filter_like (λ e. selects requirements (labels_of e.1.body)) (λ e. selects requirements (attributes_of e.0 e.1.body)) (λ e. sym (decide (Some e.0.name) (labels_of e.1.body))) es
+
+pub both_ok : {A E : Type 0} (r : Result A E) (P Q : A → Type 0) (L : Type 0) → IfOk r P → (L → IfOk r Q) → IfOk r (λ v. P v × (L → Q v))
+both_ok (Ok v) P Q L p q = (p, q)
+both_ok (Err e) P Q L p q = tt
 
 -- ---- as far as the loop has come
 
@@ -101,7 +113,7 @@ IsFoundSoFar requirements all found left = matching requirements all ≡ found +
 pub found_more : (requirements : List Requirement) (all found left rows rest new : Entries) → IsFoundSoFar requirements all found left → left ≡ rows ++ rest
     → new ≡ found ++ matching requirements rows → IsFoundSoFar requirements all new rest
 found_more requirements all found left rows rest new so_far reads is =
-    so_far ∙ ap (λ xs. found ++ matching requirements xs) reads ∙ ap (λ xs. found ++ xs) (filter-append (λ e. selects requirements (attributes_of e.1.body)) rows rest)
+    so_far ∙ ap (λ xs. found ++ matching requirements xs) reads ∙ ap (λ xs. found ++ xs) (filter-append (λ e. selects requirements (attributes_of e.0 e.1.body)) rows rest)
     ∙ sym (append_assoc found (matching requirements rows) (matching requirements rest)) ∙ ap (λ xs. xs ++ matching requirements rest) (sym is)
 
 pub found_all : (limit : Option ℕ) (requirements : List Requirement) (all found left : Entries) → IsFoundSoFar requirements all found left → left ≡ [] → limited limit found ≡ limited limit (matching requirements all)
@@ -165,5 +177,5 @@ place_after t = (t.namespace, t.name)
 -- the rows that match, from after the token's object on, are what the selection sees after its key
 pub seen_rows : (kind : ℕ) (namespace : Option (List ℕ)) (requirements : List Requirement) (token : Option Token) (limit : Option ℕ) (s : Objects)
     → limited limit (matching requirements (listed kind namespace (option_map place_after token) s)) ≡ seen_page (selection_of kind namespace requirements) (option_map (key_after kind) token) limit s
-seen_rows kind namespace requirements None limit s = ap (limited limit) (wanted_first kind namespace (λ k body. selects requirements (attributes_of body)) s)
-seen_rows kind namespace requirements (Some token) limit s = ap (limited limit) (wanted_past namespace (key_after kind token) (λ k body. selects requirements (attributes_of body)) s)
+seen_rows kind namespace requirements None limit s = ap (limited limit) (wanted_first kind namespace (λ k body. selects requirements (attributes_of k body)) s)
+seen_rows kind namespace requirements (Some token) limit s = ap (limited limit) (wanted_past namespace (key_after kind token) (λ k body. selects requirements (attributes_of k body)) s)

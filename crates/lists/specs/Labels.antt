@@ -1,13 +1,14 @@
--- The labels and the name that an object's text gives, and which objects a list is of by them (Kubernetes documentation, "Labels and
+-- The labels that an object's text gives, and which objects a list is of by them and by name (Kubernetes documentation, "Labels and
 -- Selectors", "Field Selectors").
-use Rattle.std.specs.Prelude.{ℕ, ◌&&◌, codes, List, [], Option, option_and_then, unwrap_or}
+use Rattle.std.specs.Prelude.{ℕ, ◌&&◌, codes, List, [], Option, Some, option_and_then, unwrap_or}
 use Rattle.serde_json.specs.Data.{Data, Members}
-use Rattle.serde_json.specs.Find.{as_object, as_str, get}
+use Rattle.serde_json.specs.Find.{as_object, get}
 use Rattle.serde_json.specs.Read.{read}
 use Rattle.json_values.specs.Texts.{texts_of}
 use Rattle.selector.specs.Fields.{attributes}
 use Rattle.selector.specs.Labels.{Labels}
 use Rattle.selector.specs.Requirement.{Requirement, selects}
+use Rattle.history.specs.History.{Key}
 use Rattle.history.specs.Page.{is_within}
 use Rattle.history.specs.Seen.{Selection}
 
@@ -26,17 +27,10 @@ labels_value d = option_and_then (get (codes "labels")) (get (codes "metadata") 
 abbrev pub labels_by : Option Data → Labels
 labels_by value = unwrap_or (option_and_then texts_of (option_and_then as_object value)) []
 
--- the text at `metadata.name` of a value, and of a text
-abbrev pub name_in : Data → Option (List ℕ)
-name_in d = option_and_then as_str (option_and_then (get (codes "name")) (get (codes "metadata") d))
-
-abbrev pub name_of : List ℕ → Option (List ℕ)
-name_of text = option_and_then name_in (read text)
-
--- what selectors see of an object
-abbrev pub attributes_of : List ℕ → Labels
-attributes_of text = attributes (name_of text) (labels_of text)
+-- what selectors see of an object: the labels that its text gives, and its key's name, which its text gives as `metadata.name`
+abbrev pub attributes_of : Key → List ℕ → Labels
+attributes_of k text = attributes (Some k.name) (labels_of text)
 
 -- of the type, in the namespace if one is named, and with labels and a name that meet the requirements
 abbrev pub selection_of : ℕ → Option (List ℕ) → List Requirement → Selection
-selection_of kind namespace requirements = λ k body. is_within kind namespace k && selects requirements (attributes_of body)
+selection_of kind namespace requirements = λ k body. is_within kind namespace k && selects requirements (attributes_of k body)

@@ -3,12 +3,14 @@
 //! in `labels`.
 
 ghost use Rattle.std.specs.Prelude.{◌≡◌, IfOk, IfSome};
+ghost use Rattle.history.specs.Read.{key_of};
 ghost use Rattle.selector.specs.Requirement.{selects};
 ghost use Rattle.selector.specs.Views as selector;
 ghost use Rattle.lists.specs.Labels.{attributes_of, labels_of};
 ghost use Rattle.lists.specs.LabelCache.{AreRight, IsRight};
 
-use crate::labels::{LabelReader, is_taken};
+use crate::labels::LabelReader;
+use history::Key;
 use revtable::Fault;
 use selector::Selector;
 use std::alloc::{AllocError, Global};
@@ -121,25 +123,27 @@ impl LabelCache {
         put_in(&mut self.slots, at, LabelledText { text, labels });
     }
 
-    /// Whether an object's text of a revision is selected; it isn't read where nothing is asked, or where its labels are kept and
-    /// its name isn't asked for.
+    /// Whether the object of this key and text, at a revision, is selected. Its text isn't read where its name decides, or where its
+    /// labels are kept.
     pub fn is_selected(
         &mut self,
         selector: &Selector,
+        key: &Key,
         revision: u64,
         text: &str,
     ) -> Result<bool, Fault>
-        ensures { IfOk result (λ b. b ≡ selects selector.now (attributes_of text.now)) }
+        ensures { IfOk result (λ b. b ≡ selects selector.now (attributes_of (key_of key.now) text.now)) }
     {
-        if selector.is_all() {
-            return Ok(true);
+        let name = key.name.as_str();
+        if let Some(is_selected) = selector.decided_by_name(name) {
+            return Ok(is_selected);
         }
         let at = revision as usize % SLOTS;
         if let Some(labels) = known_in(&self.slots, at, text) {
-            return Ok(is_taken(self.alloc, selector, labels, text)?);
+            return Ok(selector.matches_named(labels, Some(name)));
         }
         let labels = self.reader.labels_of(text)?;
-        let is_selected = is_taken(self.alloc, selector, &labels, text)?;
+        let is_selected = selector.matches_named(&labels, Some(name));
         self.keep(at, text, labels);
         Ok(is_selected)
     }

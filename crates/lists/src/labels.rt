@@ -1,12 +1,12 @@
-//! The labels that an object's text gives, and whether a selector takes it by them and its name. What finds them in the text stands
-//! in `finding`; selectors in the crate `selector`.
+//! The labels that an object's text gives, and whether a selector takes it by them and its name, which is its key's. What finds them in
+//! the text stands in `finding`; selectors in the crate `selector`.
 
-ghost use Rattle.std.specs.Prelude.{◌≡◌, IfOk, option_map};
+ghost use Rattle.std.specs.Prelude.{◌≡◌, IfOk, Some, option_map};
 ghost use Rattle.serde_json.specs.View.{view};
 ghost use Rattle.selector.specs.Fields.{attributes};
 ghost use Rattle.selector.specs.Requirement.{selects};
 ghost use Rattle.selector.specs.Views as views;
-ghost use Rattle.lists.specs.Labels.{labels_by, labels_of, labels_value, name_in, name_of};
+ghost use Rattle.lists.specs.Labels.{labels_by, labels_of, labels_value};
 
 use crate::finding::texts_at;
 use json::{Error, Scratch};
@@ -62,30 +62,6 @@ fn read_labels(
     }
 }
 
-fn name_in(value: &Value) -> Option<&str>
-    ensures { option_map (λ n. n.now) result ≡ name_in (view value.now) }
-{
-    value.get("metadata")?.get("name")?.as_str()
-}
-
-/// Whether an object of these labels is selected; its name is read where it is asked for.
-pub(crate) fn is_taken(
-    alloc: Global,
-    selector: &Selector,
-    labels: &BTreeMap<String, String>,
-    text: &str,
-) -> Result<bool, AllocError>
-    ensures { IfOk result (λ b. b ≡ selects selector.now (attributes (name_of text.now) (views.labels_of labels.now))) }
-{
-    if !selector.asks_name() {
-        return Ok(selector.matches(labels));
-    }
-    match read_text(alloc, text)? {
-        Some(value) => Ok(selector.matches_named(labels, name_in(&value))),
-        None => Ok(selector.matches(labels)),
-    }
-}
-
 /// Reads the labels of one text after another. The reader's scratch, of which 16 KiB are cleared when it is made, is made at
 /// the first text and kept.
 #[derive(Drop)]
@@ -119,9 +95,25 @@ impl LabelReader {
         self.scratch = Some(scratch);
         labels
     }
+
+    /// Whether an object of this name and text is selected. Its text isn't read where its name decides.
+    pub(crate) fn is_selected(
+        &mut self,
+        selector: &Selector,
+        name: &str,
+        text: &str,
+    ) -> Result<bool, AllocError>
+        ensures { IfOk result (λ b. b ≡ selects selector.now (attributes (Some name.now) (labels_of text.now))) }
+    {
+        if let Some(is_selected) = selector.decided_by_name(name) {
+            return Ok(is_selected);
+        }
+        let labels = self.labels_of(text)?;
+        Ok(selector.matches_named(&labels, Some(name)))
+    }
 }
 
-/// The objects that a selector takes.
+/// The objects that a selector takes by their labels alone.
 #[derive(Drop)]
 pub(crate) struct Labelled<'a> {
     pub(crate) alloc: Global,
@@ -154,15 +146,15 @@ impl<'a> Labelled<'a> {
 
 impl Keep for Labelled<'_> {
     ghost use Rattle.selector.specs.Requirement.{selects};
-    ghost use Rattle.lists.specs.Labels.{attributes_of};
+    ghost use Rattle.lists.specs.Labels.{labels_of};
 
-    ghost kept = { λ l text. selects l.selector.now (attributes_of text) };
+    ghost kept = { λ l text. selects l.selector.now (labels_of text) };
 
     // The text isn't read where nothing is asked.
     fn keeps(&self, text: &str) -> Result<bool, AllocError> {
         if self.selector.is_all() {
             return Ok(true);
         }
-        is_taken(self.alloc, self.selector, &self.labels_of(text)?, text)
+        Ok(self.selector.matches(&self.labels_of(text)?))
     }
 }

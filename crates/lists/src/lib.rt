@@ -17,6 +17,7 @@ mod label_cache;
 mod labels;
 mod laws;
 mod listing;
+mod named;
 mod page;
 mod passing;
 mod refusal;

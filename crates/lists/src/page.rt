@@ -1,5 +1,6 @@
-//! The page that is asked for: the store is asked once, for one object more than the page holds. What a watch begins with
-//! is read in batches of rows, each twice as large as the one before up to 501. The rows are read in `rows`.
+//! The page that is asked for: the store is asked once, for one object more than the page holds. What a watch begins with, and a list
+//! by names, is read in batches of rows, each twice as large as the one before up to 501. The rows are read in `rows`; one name in one
+//! namespace is looked up in `named`.
 
 ghost use Rattle.std.specs.Prelude.{◌≡◌, ◌<◌, ◌≤◌, ◌++◌, IfOk, Some, map, option_map, take};
 ghost use Rattle.history.specs.History.{last_revision};
@@ -7,6 +8,7 @@ ghost use Rattle.history.specs.Page.{listed};
 ghost use Rattle.history.specs.Seen.{IsLimit, limited};
 ghost use Rattle.history.specs.View.{state_in};
 ghost use Rattle.params.specs.Views.{token_view, values_of};
+ghost use Rattle.selector.specs.Fields.{LabelsDecide};
 ghost use Rattle.history.specs.Read.{entry_of};
 ghost use Rattle.lists.specs.Lists.{page_limit, page_of};
 ghost use Rattle.lists.specs.Rows.{asked_for, is_over, matching, place_of};
@@ -14,6 +16,7 @@ ghost use Rattle.lists.specs.Views.{collection_of, page_seen, start_of};
 
 use crate::collection::{Collection, Selected};
 use crate::labels::Labelled;
+use crate::named::found_named;
 use crate::rows::{Start, after, matching, next_rows};
 use crate::text::next_of;
 use history::{Entry, LAST_REVISION};
@@ -82,8 +85,8 @@ fn cut(limit: Option<usize>, mut found: Vec<Entry>) -> Page
     Page { found, has_more }
 }
 
-/// What is selected from a start on, until it is more than the page has or nothing is left.
-fn found_from(
+/// What is selected from a start on, of rows that are read until it is more than the page has or nothing is left.
+fn found_in_rows(
     alloc: Global,
     store: &mut Store,
     selected: Selected<'_>,
@@ -110,6 +113,29 @@ fn found_from(
         max = max.saturating_mul(2).min(MAX_ROWS);
     }
     Ok(found)
+}
+
+/// What is selected from a start on, until it is more than the page has or nothing is left. Where one name in one namespace is asked
+/// for, that object alone is looked up.
+fn found_from(
+    alloc: Global,
+    store: &mut Store,
+    selected: Selected<'_>,
+    start: Start,
+    limit: Option<usize>,
+) -> Result<Vec<Entry>, Fault>
+    requires low { store.old.compacted ≤ selected.revision }
+    requires high { selected.revision ≤ store.old.current }
+    ensures found { IfOk result (λ v. limited limit (map entry_of v.items)
+        ≡ limited limit (matching selected.entry.selector.now (listed (collection_of selected.entry.collection).kind (collection_of selected.entry.collection).namespace (start_of start) (state_in store.old selected.entry.revision)))) }
+    ensures same { store.new ≡ store.old }
+{
+    match (selected.collection.namespace, selected.selector.name()) {
+        (Some(namespace), Some(name)) => {
+            found_named(alloc, store, selected, namespace, name, &start)
+        }
+        _ => found_in_rows(alloc, store, selected, start, limit),
+    }
 }
 
 /// The first that are selected from a start on, at most so many, and whether more are left. Of the collection its type and
@@ -164,7 +190,7 @@ fn asked_for(limit: u64) -> u64
     }
 }
 
-/// The first that are selected from a start on, at most so many.
+/// The first that are selected from a start on by their labels alone, at most so many.
 fn first_selected(
     alloc: Global,
     store: &mut Store,
@@ -174,6 +200,7 @@ fn first_selected(
 ) -> Result<Vec<Entry>, Fault>
     requires low { store.old.compacted ≤ selected.revision }
     requires high { selected.revision ≤ store.old.current }
+    requires by_labels { LabelsDecide selected.selector.now }
     ensures first { IfOk result (λ v. map entry_of v.items
         ≡ take max (matching selected.entry.selector.now (listed (collection_of selected.entry.collection).kind (collection_of selected.entry.collection).namespace (start_of start.now) (state_in store.old selected.entry.revision)))) }
     ensures whole { last_revision ≤ max → IfOk result (λ v. map entry_of v.items
@@ -197,6 +224,27 @@ fn first_selected(
     }
 }
 
+/// What is selected from a start on, at least as much as the page has and one more, if there is as much. The store isn't asked for what
+/// has names, since it keeps by texts.
+fn found_for_page(
+    alloc: Global,
+    store: &mut Store,
+    selected: Selected<'_>,
+    start: Start,
+    limit: u64,
+) -> Result<Vec<Entry>, Fault>
+    requires low { store.old.compacted ≤ selected.revision }
+    requires high { selected.revision ≤ store.old.current }
+    ensures found { IfOk result (λ v. limited (page_limit limit) (map entry_of v.items)
+        ≡ limited (page_limit limit) (matching selected.entry.selector.now (listed (collection_of selected.entry.collection).kind (collection_of selected.entry.collection).namespace (start_of start) (state_in store.old selected.entry.revision)))) }
+    ensures same { store.new ≡ store.old }
+{
+    if selected.selector.asks_name() {
+        return found_from(alloc, store, selected, start, page_limit(limit));
+    }
+    first_selected(alloc, store, selected, &start, asked_for(limit))
+}
+
 /// The page that is asked for, at a revision.
 pub(crate) fn page_of(
     alloc: Global,
@@ -216,6 +264,6 @@ pub(crate) fn page_of(
         revision,
         selector: &params.selector,
     };
-    let found = first_selected(alloc, store, selected, &start, asked_for(params.limit))?;
+    let found = found_for_page(alloc, store, selected, start, params.limit)?;
     Ok(cut(page_limit(params.limit), found))
 }

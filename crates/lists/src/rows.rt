@@ -10,10 +10,10 @@ ghost use Rattle.lists.specs.Views.{collection_of, start_of};
 ghost use Rattle.std.specs.Prelude as prelude;
 
 use crate::collection::Collection;
-use crate::labels::Labelled;
+use crate::labels::LabelReader;
 use history::{Entry, Key};
 use revstore::{ListFault, Store};
-use revtable::{Fault, Keep};
+use revtable::Fault;
 use selector::Selector;
 use std::alloc::{AllocError, Global};
 
@@ -119,10 +119,15 @@ pub(crate) fn next_rows(
 }
 
 /// Keeps a row that is selected.
-fn push_selected(keep: &Labelled<'_>, found: &mut Vec<Entry>, row: Entry) -> Result<(), Fault>
-    ensures { OnOk result (map entry_of found.new.items ≡ map entry_of found.old.items ++ matching keep.now.selector.now (entry_of row ∷ [])) }
+fn push_selected(
+    reader: &mut LabelReader,
+    selector: &Selector,
+    found: &mut Vec<Entry>,
+    row: Entry,
+) -> Result<(), Fault>
+    ensures { OnOk result (map entry_of found.new.items ≡ map entry_of found.old.items ++ matching selector.now (entry_of row ∷ [])) }
 {
-    if !keep.keeps(row.object.body.as_str())? {
+    if !reader.is_selected(selector, row.key.name.as_str(), row.object.body.as_str())? {
         return Ok(());
     }
     found.push(row)?;
@@ -137,10 +142,10 @@ pub(crate) fn matching(
 ) -> Result<Vec<Entry>, Fault>
     ensures { IfOk result (λ v. map entry_of v.items ≡ matching selector.now (map entry_of rows.items)) }
 {
-    let keep = Labelled::new(alloc, selector);
+    let mut reader = LabelReader::new(alloc);
     let mut found = Vec::new(alloc);
     for row in rows {
-        push_selected(&keep, &mut found, row)?;
+        push_selected(&mut reader, selector, &mut found, row)?;
     }
     Ok(found)
 }

@@ -1,10 +1,10 @@
 -- What selectors see of an object, and how a text asks for its name (Kubernetes documentation, "Field Selectors").
-use Rattle.std.specs.Prelude.{◌≡◌, ◌==◌, ◌&&◌, not, ℕ, Bool, if◌then◌else◌, List, [], ◌∷◌, drop, length, Option, Some, None, option_map, codes}
+use Rattle.std.specs.Prelude.{◌≡◌, ◌==◌, ◌&&◌, not, ℕ, Bool, true, if◌then◌else◌, List, [], ◌∷◌, drop, length, Option, Some, None, option_map, codes}
 use Rattle.std.specs.List.{list_all, list_any}
 use Rattle.std.specs.Str.{bytes_eq}
 use Rattle.selector.specs.Grammar.{Sign, equal, different, begins_with, sign_at}
 use Rattle.selector.specs.Labels.{Labels}
-use Rattle.selector.specs.Requirement.{Condition, equals, differs, Requirement, selects}
+use Rattle.selector.specs.Requirement.{Condition, equals, differs, Requirement, meets, selects}
 
 -- no label has such a key
 abbrev pub name_key : List ℕ
@@ -22,6 +22,18 @@ asks_name requirements = list_any (λ r. bytes_eq r.key name_key) requirements
 -- whatever the name is, the labels alone decide
 abbrev pub LabelsDecide : List Requirement → Type 0
 LabelsDecide requirements = (name : Option (List ℕ)) (labels : Labels) → selects requirements (attributes name labels) ≡ selects requirements labels
+
+-- whatever the labels are, the name decides so
+abbrev pub NameDecides : List Requirement → List ℕ → Bool → Type 0
+NameDecides requirements name is_selected = (labels : Labels) → selects requirements (attributes (Some name) labels) ≡ is_selected
+
+-- what is selected has this name
+abbrev pub AsksFor : List Requirement → List ℕ → Type 0
+AsksFor requirements wanted = (name : List ℕ) (labels : Labels) → selects requirements (attributes (Some name) labels) ≡ true → name ≡ wanted
+
+-- the requirement is on the name, which doesn't meet it
+abbrev pub refuses : List ℕ → Requirement → Bool
+refuses name r = bytes_eq r.key name_key && not (meets r.condition (Some name))
 
 -- ---- metadata.name=NAME, metadata.name==NAME, metadata.name!=NAME
 

@@ -1,13 +1,13 @@
 //! One requirement on an object's labels or its name: how it is read of labels, when it is met, whether it is the same as another, and
 //! copies. A whole selector stands in `selector`, what is asked of names in `fields`.
 
-ghost use Rattle.std.specs.List.{list_any};
-ghost use Rattle.std.specs.Prelude.{◌≡◌, ◌↔◌, [], true, map, IfOk, option_map, string_bytes};
+ghost use Rattle.std.specs.List.{list_all, list_any};
+ghost use Rattle.std.specs.Prelude.{◌≡◌, ◌↔◌, [], true, map, IfOk, IfSome, option_map, string_bytes};
 ghost use Rattle.std.specs.Str.{bytes_eq};
-ghost use Rattle.selector.specs.Fields.{attributes, name_key};
+ghost use Rattle.selector.specs.Fields.{AsksFor, about_name, attributes, name_key, refuses};
 ghost use Rattle.selector.specs.Grammar.{Returns, required, key_of, value_of, values_of, outside_of, among_of, worded, set_of, equal, different, signed, plain_of, part_of, parts_of};
 ghost use Rattle.selector.specs.Labels.{value_at};
-ghost use Rattle.selector.specs.Requirement.{meets};
+ghost use Rattle.selector.specs.Requirement.{equals, meets};
 ghost use Rattle.selector.specs.Views.{condition_of, requirement_of, labels_of};
 
 use crate::fault::{Fault, ReadError};
@@ -136,6 +136,23 @@ impl Requirement {
         self.key.as_str() == NAME_KEY
     }
 
+    /// Whether it is on the name, and this name doesn't meet it.
+    fn refuses(&self, name: &str) -> bool
+        ensures { result ≡ refuses name.now (requirement_of self.now) }
+    {
+        self.asks_name() && !self.condition.is_met(Some(name))
+    }
+
+    /// The name that it asks for, if it does.
+    fn name(&self) -> Option<&str>
+        ensures { IfSome result (λ n. requirement_of self.now ≡ about_name (equals n.now)) }
+    {
+        match &self.condition {
+            Condition::Equals(name) if self.asks_name() => Some(name.as_str()),
+            _ => None,
+        }
+    }
+
     /// Whether an object of these labels meets it, and of this name, if one is given.
     pub(crate) fn is_met(&self, labels: &BTreeMap<String, String>, name: Option<&str>) -> bool
         ensures { result ≡ meets (condition_of self.now.condition) (value_at (string_bytes self.now.key) (attributes (option_map (λ n. n.now) name.entry) (labels_of labels.now))) }
@@ -157,6 +174,36 @@ impl Requirement {
             condition: self.condition.try_copy(alloc)?,
         })
     }
+}
+
+/// Whether one of these refuses a name.
+pub(crate) fn refuse(requirements: &[Requirement], name: &str) -> bool
+    ensures { result ≡ list_any (refuses name.now) (map requirement_of requirements.now) }
+{
+    requirements
+        .iter()
+        .any(|requirement| requirement.refuses(name))
+}
+
+/// Whether all of these are on the name.
+pub(crate) fn all_ask_name(requirements: &[Requirement]) -> bool
+    ensures { result ≡ list_all (λ r. bytes_eq r.key name_key) (map requirement_of requirements.now) }
+{
+    requirements
+        .iter()
+        .all(|requirement| requirement.asks_name())
+}
+
+/// The name that the first of these asks for which asks for one.
+pub(crate) fn name_in(requirements: &[Requirement]) -> Option<&str>
+    ensures { IfSome result (λ n. AsksFor (map requirement_of requirements.now) n.now) }
+{
+    for requirement in requirements {
+        if let Some(name) = requirement.name() {
+            return Some(name);
+        }
+    }
+    None
 }
 
 /// Whether these are the same requirements, in the same order.

@@ -1,15 +1,17 @@
 //! A list of requirements, all of which have to be met. One requirement stands in `requirement`.
 
-ghost use Rattle.std.specs.Prelude.{◌≡◌, ◌↔◌, ◌++◌, [], false, true, IfOk, option_map};
+ghost use Rattle.std.specs.Prelude.{◌≡◌, ◌↔◌, ◌++◌, [], false, true, IfOk, IfSome, option_map};
 ghost use Rattle.names.specs.Names.{is_label_key};
-ghost use Rattle.selector.specs.Fields.{LabelsDecide, asks_name, attributes, fields_of, name_key};
+ghost use Rattle.selector.specs.Fields.{AsksFor, LabelsDecide, NameDecides, asks_name, attributes, fields_of, name_key};
 ghost use Rattle.selector.specs.Grammar.{Returns, parse_selector};
 ghost use Rattle.selector.specs.Requirement.{selects};
 ghost use Rattle.selector.specs.Views.{labels_of};
 
 use crate::fault::{Fault, ReadError};
 use crate::fields::field_of;
-use crate::requirement::{Requirement, are_same, copy_all, parts_of};
+use crate::requirement::{
+    Requirement, all_ask_name, are_same, copy_all, name_in, parts_of, refuse,
+};
 use crate::text::has_paired_brackets;
 use std::alloc::{AllocError, Global};
 use std::collections::BTreeMap;
@@ -117,6 +119,26 @@ impl Selector {
         self.requirements
             .iter()
             .any(|requirement| requirement.asks_name())
+    }
+
+    /// Whether the object of this name is selected, where that doesn't depend on its labels. Takes no memory.
+    pub fn decided_by_name(&self, name: &str) -> Option<bool>
+        ensures { IfSome result (NameDecides self.now name.now) }
+    {
+        if refuse(&self.requirements, name) {
+            Some(false)
+        } else if all_ask_name(&self.requirements) {
+            Some(true)
+        } else {
+            None
+        }
+    }
+
+    /// The name that an object must have to be selected, if one is asked for.
+    pub fn name(&self) -> Option<&str>
+        ensures { IfSome result (λ n. AsksFor self.now n.now) }
+    {
+        name_in(&self.requirements)
     }
 
     /// Whether an object with these labels is selected. Takes no memory.

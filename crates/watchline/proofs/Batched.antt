@@ -172,12 +172,12 @@ left_true true b h = refl
 left_true false b h = h
 
 within : (kind : ℕ) (namespace : Option (List ℕ)) (requirements : List Requirement) (k : Key) (b : List ℕ) → selection_of kind namespace requirements k b ≡ true → is_within kind namespace k ≡ true
-within kind namespace requirements k b h = left_true (is_within kind namespace k) (selects requirements (attributes_of b)) h
+within kind namespace requirements k b h = left_true (is_within kind namespace k) (selects requirements (attributes_of k b)) h
 
 same_body : (kind : ℕ) (namespace : Option (List ℕ)) (requirements : List Requirement) (k : Key) → is_within kind namespace k ≡ true → (b : Option (List ℕ))
-    → if_wanted (selection_of kind namespace requirements) k b ≡ body_if_selected requirements b
+    → if_wanted (selection_of kind namespace requirements) k b ≡ body_if_selected requirements k b
 same_body kind namespace requirements k own None = refl
-same_body kind namespace requirements k own (Some b) = ap (λ t. cond (t && selects requirements (attributes_of b)) (Some b) None) own
+same_body kind namespace requirements k own (Some b) = ap (λ t. cond (t && selects requirements (attributes_of k b)) (Some b) None) own
 
 same_seen : (kind : ℕ) (namespace : Option (List ℕ)) (requirements : List Requirement) (s : Objects) (c : Change) → is_within kind namespace c.key ≡ true
     → seen_of (selection_of kind namespace requirements) s c ≡ seen_by_labels requirements s c

@@ -35,8 +35,8 @@ Entries = List (Key × Object)
 -- the rows that match, from a start on, are what the selection has past its place
 pub matched : (kind : ℕ) (namespace : Option (List ℕ)) (requirements : List Requirement) (start : Start) (s : Objects)
     → matching requirements (listed kind namespace start s) ≡ left_after (option_map (key_at kind) start) (fin.entries (selected (selection_of kind namespace requirements) s))
-matched kind namespace requirements None s = wanted_first kind namespace (λ k body. selects requirements (attributes_of body)) s
-matched kind namespace requirements (Some place) s = wanted_past namespace (key_at kind place) (λ k body. selects requirements (attributes_of body)) s
+matched kind namespace requirements None s = wanted_first kind namespace (λ k body. selects requirements (attributes_of k body)) s
+matched kind namespace requirements (Some place) s = wanted_past namespace (key_at kind place) (λ k body. selects requirements (attributes_of k body)) s
 
 -- past the current number the objects stay
 up_to-min : (lo top p : ℕ) (cs : List Change) → IsRising lo cs top → up_to (min p top) cs ≡ up_to p cs

@@ -1,4 +1,5 @@
 pub mod Batched
 pub mod Coming
+pub mod InAll
 pub mod Onward
 pub mod Putting

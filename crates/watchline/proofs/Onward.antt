@@ -44,7 +44,7 @@ same_kind kind namespace requirements s =
     ∙ ap (filter (λ e. is_within kind None e.0)) (entries-selected (selection_of kind namespace requirements) s)
     ∙ filter_both (λ e. is_within kind None e.0) (λ e. selection_of kind namespace requirements e.0 e.1.body) (fin.entries s)
     ∙ filter_like (λ e. selection_of kind namespace requirements e.0 e.1.body && is_within kind None e.0) (λ e. selection_of kind namespace requirements e.0 e.1.body)
-    (λ e. absorbs (e.0.kind == kind) (is_in_namespace namespace e.0) (selects requirements (attributes_of e.1.body))) (fin.entries s)
+    (λ e. absorbs (e.0.kind == kind) (is_in_namespace namespace e.0) (selects requirements (attributes_of e.0 e.1.body))) (fin.entries s)
     ∙ sym (entries-selected (selection_of kind namespace requirements) s)
 
 rows_are : (kind : ℕ) (namespace : Option (List ℕ)) (requirements : List Requirement) (start : Start) (s : Objects)

@@ -1,22 +1,26 @@
 -- How the changes that a watch sees are read: a few at a time, until there are enough or none are left. Words of private clauses, step by step
 -- as the code goes; what a pump reads is said without them.
-use Rattle.std.specs.Prelude.{ℕ, suc, ◌-◌, ◌<◌, ◌≤◌, if◌then◌else◌, List, [], ◌∷◌, length, Option, Some, None, option_map}
+use Rattle.std.specs.Prelude.{ℕ, Bool, suc, ◌-◌, ◌<◌, ◌≤◌, if◌then◌else◌, List, [], ◌∷◌, length, Option, Some, None, option_map}
 use Rattle.std.specs.FinMap as fin
 use Rattle.std.specs.List.{AllByRecursion, flat_map}
 use Rattle.selector.specs.Requirement.{Requirement, selects}
-use Rattle.history.specs.History.{Change, Objects, later}
+use Rattle.history.specs.History.{Change, Key, Objects, later}
 use Rattle.history.specs.Page.{picked}
-use Rattle.history.specs.Seen.{SeenChange, seen_by}
+use Rattle.history.specs.Seen.{SeenChange, SeenKind, Added, Modified, seen_by}
 use Rattle.history.specs.View.{View, state_in}
 use Rattle.lists.specs.Labels.{attributes_of}
 
 -- a body, where its labels and its name meet the requirements: the type and the namespace are those of the changes that are read
-abbrev pub body_if_selected : List Requirement → Option (List ℕ) → Option (List ℕ)
-body_if_selected requirements None = None
-body_if_selected requirements (Some b) = if selects requirements (attributes_of b) then Some b else None
+abbrev pub body_if_selected : List Requirement → Key → Option (List ℕ) → Option (List ℕ)
+body_if_selected requirements k None = None
+body_if_selected requirements k (Some b) = if selects requirements (attributes_of k b) then Some b else None
 
 abbrev pub seen_by_labels : List Requirement → Objects → Change → List SeenChange
-seen_by_labels requirements s c = seen_by c.revision c.key (body_if_selected requirements (option_map (λ o. o.body) (fin.get s c.key))) (body_if_selected requirements c.body)
+seen_by_labels requirements s c = seen_by c.revision c.key (body_if_selected requirements c.key (option_map (λ o. o.body) (fin.get s c.key))) (body_if_selected requirements c.key c.body)
+
+-- how a change that leaves an object is seen where all are selected, by whether one stood before
+abbrev pub kind_of_put : Bool → SeenKind
+kind_of_put stood = if stood then Modified else Added
 
 -- what is seen of each of these changes, by what stood just before it
 abbrev pub seen_each : List Requirement → View → List Change → List SeenChange

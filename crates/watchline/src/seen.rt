@@ -1,10 +1,10 @@
 //! What a watch sees of a change: an object added, modified or deleted, or nothing. Changes are read in `batches`.
 
-ghost use Rattle.std.specs.Prelude.{◌≡◌, ◌-◌, ◌<◌, ◌≤◌, ◌++◌, IfOk, OnOk, map, option_map, string_bytes};
+ghost use Rattle.std.specs.Prelude.{◌≡◌, ◌-◌, ◌<◌, ◌≤◌, ◌++◌, [], None, IfOk, OnOk, map, option_map, string_bytes};
 ghost use Rattle.history.specs.Read.{change_of, key_of, object_of};
 ghost use Rattle.history.specs.Seen.{reached, seen_by};
 ghost use Rattle.history.specs.View.{state_in};
-ghost use Rattle.watchline.specs.BatchViews.{AreBetween, body_if_selected, seen_each, seen_by_labels};
+ghost use Rattle.watchline.specs.BatchViews.{AreBetween, body_if_selected, kind_of_put, seen_each, seen_by_labels};
 ghost use Rattle.watchline.specs.Views.{seen_change_of, kind_seen, seen_list};
 
 use history::{Change, Key, Object};
@@ -59,14 +59,15 @@ fn seen_by(revision: u64, key: Key, before: Option<String>, after: Option<String
 fn body_if_selected(
     labels: &mut LabelCache,
     selector: &Selector,
+    key: &Key,
     object: Option<Object>,
 ) -> Result<Option<String>, Fault>
-    ensures { IfOk result (λ o. option_map string_bytes o ≡ body_if_selected selector.now (option_map (λ o. o.body) (option_map object_of object))) }
+    ensures { IfOk result (λ o. option_map string_bytes o ≡ body_if_selected selector.now (key_of key.now) (option_map (λ o. o.body) (option_map object_of object))) }
 {
     let Some(object) = object else {
         return Ok(None);
     };
-    if labels.is_selected(selector, object.revision, object.body.as_str())? {
+    if labels.is_selected(selector, key, object.revision, object.body.as_str())? {
         Ok(Some(object.body))
     } else {
         Ok(None)
@@ -83,6 +84,75 @@ fn object_after(revision: u64, body: Option<String>) -> Option<Object>
     }
 }
 
+/// What is seen of a change by the texts before and after it, each where it is selected.
+fn seen_by_texts(
+    labels: &mut LabelCache,
+    store: &mut Store,
+    selector: &Selector,
+    change: Change,
+) -> Result<Option<Seen>, Fault>
+    requires above { store.old.compacted < change.revision }
+    requires known { change.revision ≤ store.old.current }
+    ensures seen { IfOk result (λ o. seen_list o ≡ seen_by_labels selector.now (state_in store.old (change.revision - 1)) (change_of change)) }
+    ensures same { store.new ≡ store.old }
+{
+    let Change {
+        revision,
+        key,
+        body,
+    } = change;
+    let stood = store.before(&key, revision)?;
+    let before = body_if_selected(labels, selector, &key, stood)?;
+    let stands = object_after(revision, body);
+    let after = body_if_selected(labels, selector, &key, stands)?;
+    Ok(seen_by(revision, key, before, after))
+}
+
+/// How a change that leaves an object is seen, by whether one stood before.
+fn kind_of_put(stood: bool) -> SeenKind
+    ensures { kind_seen result ≡ kind_of_put stood }
+{
+    if stood {
+        SeenKind::Modified
+    } else {
+        SeenKind::Added
+    }
+}
+
+/// A deletion as it is seen, by what stood before.
+fn seen_deletion(revision: u64, key: Key, deleted: Option<Object>) -> Option<Seen>
+    ensures { seen_list result ≡ seen_by revision (key_of key) (option_map (λ o. o.body) (option_map object_of deleted)) None }
+{
+    match deleted {
+        Some(object) => Some(seen_as(SeenKind::Deleted, key, revision, object.body)),
+        None => None,
+    }
+}
+
+/// What is seen of a change where the object is selected, whatever its text: of what stood before the text is asked only for a deletion.
+fn seen_in_all(store: &mut Store, change: Change) -> Result<Option<Seen>, Fault>
+    requires above { store.old.compacted < change.revision }
+    requires known { change.revision ≤ store.old.current }
+    ensures seen { IfOk result (λ o. seen_list o ≡ seen_by_labels [] (state_in store.old (change.revision - 1)) (change_of change)) }
+    ensures same { store.new ≡ store.old }
+{
+    let Change {
+        revision,
+        key,
+        body,
+    } = change;
+    match body {
+        Some(after) => {
+            let stood = store.stood_before(&key, revision)?;
+            Ok(Some(seen_as(kind_of_put(stood), key, revision, after)))
+        }
+        None => {
+            let deleted = store.before(&key, revision)?;
+            Ok(seen_deletion(revision, key, deleted))
+        }
+    }
+}
+
 /// What is seen of a change of the type and namespace, if anything.
 fn seen_of(
     labels: &mut LabelCache,
@@ -95,11 +165,11 @@ fn seen_of(
     ensures seen { IfOk result (λ o. seen_list o ≡ seen_by_labels selector.now (state_in store.old (change.revision - 1)) (change_of change)) }
     ensures same { store.new ≡ store.old }
 {
-    let stood = store.before(&change.key, change.revision)?;
-    let before = body_if_selected(labels, selector, stood)?;
-    let stands = object_after(change.revision, change.body);
-    let after = body_if_selected(labels, selector, stands)?;
-    Ok(seen_by(change.revision, change.key, before, after))
+    match selector.decided_by_name(change.key.name.as_str()) {
+        Some(true) => seen_in_all(store, change),
+        Some(false) => Ok(None),
+        None => seen_by_texts(labels, store, selector, change),
+    }
 }
 
 /// Keeps what is seen of a change.

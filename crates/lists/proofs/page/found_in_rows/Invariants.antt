@@ -6,7 +6,7 @@ use Rattle.history.specs.Read.{entry_of}
 use Rattle.lists.specs.Rows.{rows_left, to_read}
 use Rattle.lists.specs.Views.{collection_of, start_of}
 use Rattle.lists.proofs.Reading.{IsFoundSoFar}
-use Rattle.lists.proofs.page.found_from.Given as goal
+use Rattle.lists.proofs.page.found_in_rows.Given as goal
 
 abbrev pub invariant-loop-left : goal.invariant-loop-left
 invariant-loop-left l =

@@ -8,7 +8,7 @@ use Rattle.history.specs.Read.{entry_of}
 use Rattle.lists.specs.Rows.{matching, rows_left}
 use Rattle.lists.specs.Views.{collection_of, start_of}
 use Rattle.lists.proofs.Reading.{IsFoundSoFar, enough_found, found_more}
-use Rattle.lists.proofs.page.found_from.Goals as goal
+use Rattle.lists.proofs.page.found_in_rows.Goals as goal
 
 pub returns-then-is_over-clause-found : goal.returns-then-is_over-clause-found
 returns-then-is_over-clause-found c =
