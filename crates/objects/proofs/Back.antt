@@ -18,7 +18,7 @@ use Rattle.names.proofs.Decimals.{exact}
 use Rattle.pathmap.specs.Contents.{Content}
 use Rattle.pathmap.specs.Insides.{inside}
 use Rattle.schema.specs.Lawful.{is_lawful, is_well_formed, names_of, are_well_formed}
-use Rattle.schema.specs.ObjectShape.{IsObjectShape, metadata}
+use Rattle.schema.specs.ObjectShape.{IsMetadata, IsObjectShape}
 use Rattle.schema.specs.Shape.{Shape, text, whole, truth, struct_of, map_of, list_of, Fields, shape_at}
 use Rattle.typed.specs.Faults.{Read}
 use Rattle.typed.specs.Fitting.{IsContent}
@@ -64,7 +64,7 @@ module _ (all : Fields) (of : Identity) (v : ℕ) (state : State) where
   abbrev pub fields_printed : Members
   fields_printed = print_fields all state.content no_members
 
-  module _ (lawful : is_lawful type_of_all ≡ true) (has_metadata : shape_at (codes "metadata") all ≡ Some metadata) (no_version : shape_at (codes "apiVersion") all ≡ None) (no_kind : shape_at (codes "kind") all ≡ None) (well_typed : IsWellTypedState type_of_all state) (low : v ≤ max_version) where
+  module _ (lawful : is_lawful type_of_all ≡ true) (m : Shape) (has_metadata : shape_at (codes "metadata") all ≡ Some m) (is_metadata : IsMetadata m) (no_version : shape_at (codes "apiVersion") all ≡ None) (no_kind : shape_at (codes "kind") all ≡ None) (well_typed : IsWellTypedState type_of_all state) (low : v ≤ max_version) where
     formed : is_well_formed type_of_all ≡ true
     formed = (and_parts (is_well_formed type_of_all) _ lawful).0
 
@@ -75,10 +75,10 @@ module _ (all : Fields) (of : Identity) (v : ℕ) (state : State) where
     in_metadata = inside (name_text (codes "metadata")) state.content
 
     abbrev pub printed_of_metadata : Members
-    printed_of_metadata = (metadata_printed in_metadata).0
+    printed_of_metadata = (metadata_printed m in_metadata is_metadata).0
 
     metadata_there : get_member (codes "metadata") fields_printed ≡ object_or_none printed_of_metadata
-    metadata_there = found_field (codes "metadata") metadata all state.content no_members up has_metadata refl ∙ (metadata_printed in_metadata).1
+    metadata_there = found_field (codes "metadata") m all state.content no_members up has_metadata refl ∙ (metadata_printed m in_metadata is_metadata).1
 
     members_are : metadata_members (print type_of_all state.content) ≡ printed_of_metadata
     members_are = ap (λ ms. members_printed (get_member (codes "metadata") ms)) (members_back fields_printed) ∙ ap members_printed metadata_there ∙ members_back printed_of_metadata
@@ -87,7 +87,7 @@ module _ (all : Fields) (of : Identity) (v : ℕ) (state : State) where
     listed = entry_items type_of_all of.api_version (fin.entries state.owners)
 
     abbrev pub meta : Members
-    meta = with_name of.name of.namespace (decimal v) listed printed_of_metadata (metadata_printed in_metadata).2
+    meta = with_name of.name of.namespace (decimal v) listed printed_of_metadata (metadata_printed m in_metadata is_metadata).2
 
     pub version_free : get_member (codes "apiVersion") fields_printed ≡ None
     version_free = absent_field (codes "apiVersion") all state.content no_members no_version
@@ -109,7 +109,7 @@ module _ (all : Fields) (of : Identity) (v : ℕ) (state : State) where
 
     content_there : content_of type_of_all (fields_of beside meta) ≡ Ok state.content
     content_there =
-        ap (content_of type_of_all) (fields_back of.api_version of.kind meta fields_printed version_free kind_free printed_of_metadata (print_ascends fields_printed refl) metadata_there (metadata_back of.name of.namespace (decimal v) listed printed_of_metadata (metadata_printed in_metadata).2))
+        ap (content_of type_of_all) (fields_back of.api_version of.kind meta fields_printed version_free kind_free printed_of_metadata (print_ascends fields_printed refl) metadata_there (metadata_back of.name of.namespace (decimal v) listed printed_of_metadata (metadata_printed m in_metadata is_metadata).2))
         ∙ content_back all state.content (round type_of_all state.content formed (content_well_typed type_of_all formed state.content well_typed.0))
 
     all_well_typed : AllWellTyped type_of_all (fin.entries state.owners)
@@ -119,13 +119,13 @@ module _ (all : Fields) (of : Identity) (v : ℕ) (state : State) where
 
     owners_there : owners_in type_of_all meta ≡ Some state.owners
     owners_there =
-        ap (λ o. option_and_then owners_of (option_and_then (entries_in type_of_all) (items_or_none o))) (items_there of.name of.namespace (decimal v) listed printed_of_metadata (metadata_printed in_metadata).2)
-        ∙ ap (λ o. option_and_then owners_of (option_and_then (entries_in type_of_all) o)) (items_put listed printed_of_metadata (metadata_printed in_metadata).2.3)
+        ap (λ o. option_and_then owners_of (option_and_then (entries_in type_of_all) (items_or_none o))) (items_there of.name of.namespace (decimal v) listed printed_of_metadata (metadata_printed m in_metadata is_metadata).2)
+        ∙ ap (λ o. option_and_then owners_of (option_and_then (entries_in type_of_all) o)) (items_put listed printed_of_metadata (metadata_printed m in_metadata is_metadata).2.3)
         ∙ ap (option_and_then owners_of) (entries_there type_of_all of.api_version (fin.entries state.owners) (λ paths have. written type_of_all paths lawful have) all_well_typed)
         ∙ owners_back state.owners well_typed.1.0
 
     version_read : version_in meta ≡ Some v
-    version_read = ap (λ o. option_and_then version_of (option_and_then as_str o)) (version_there of.name of.namespace (decimal v) listed printed_of_metadata (metadata_printed in_metadata).2) ∙ version_back v low
+    version_read = ap (λ o. option_and_then version_of (option_and_then as_str o)) (version_there of.name of.namespace (decimal v) listed printed_of_metadata (metadata_printed m in_metadata is_metadata).2) ∙ version_back v low
 
     pub struct_back : parts_in type_of_all (object_value type_of_all of v state) ≡ Some (state, v)
     struct_back =
@@ -140,7 +140,7 @@ parts_back text of v state shaped well_typed low = absurd (true≢false (sym sha
 parts_back whole of v state shaped well_typed low = absurd (true≢false (sym shaped.0))
 parts_back truth of v state shaped well_typed low = absurd (true≢false (sym shaped.0))
 parts_back (struct_of all true) of v state shaped well_typed low = absurd (true≢false (sym shaped.0))
-parts_back (struct_of all false) of v state shaped well_typed low = struct_back all of v state shaped.1 shaped.2 shaped.3 shaped.4 well_typed low
+parts_back (struct_of all false) of v state shaped well_typed low = struct_back all of v state shaped.1 shaped.2.0 shaped.2.1 shaped.2.2 shaped.3 shaped.4 well_typed low
 parts_back (map_of s b) of v state shaped well_typed low = absurd (true≢false (sym shaped.0))
 parts_back (list_of s kind) of v state shaped well_typed low = absurd (true≢false (sym shaped.0))
 

@@ -1,5 +1,5 @@
 -- What stands round an object's fields, taken off again.
-use Rattle.std.proofs.Common.{◌≡◌, ℕ, Bool, true, false, cond, List, Option, Some, None, refl, sym, ap, ◌∙◌, subst}
+use Rattle.std.proofs.Common.{◌≡◌, ℕ, Bool, true, false, cond, List, Option, Some, None, refl, sym, ap, ◌∙◌, subst, true≢false}
 use Rattle.std.specs.Prelude.{codes, option_map, option_and_then}
 use Rattle.std.specs.Str.{bytes_eq}
 use Rattle.std.specs.Cmp.Lexicographic.{bytes_decides}
@@ -14,8 +14,10 @@ use Rattle.fieldpath.proofs.Names.{ascend_rest, first_below, further, rest_above
 use Rattle.pathmap.specs.Contents.{Content}
 use Rattle.pathmap.specs.Insides.{inside}
 use Rattle.schema.specs.Lawful.{names_of}
-use Rattle.schema.specs.Shape.{Shape, text, struct_of, map_of, Fields, no_fields, field, shape_at}
-use Rattle.schema.specs.ObjectShape.{metadata}
+use Rattle.schema.specs.Shape.{Shape, text, whole as whole_number, truth, struct_of, map_of, list_of, Fields, no_fields, field, shape_at}
+use Rattle.schema.specs.Among.{is_in}
+use Rattle.schema.specs.ObjectShape.{IsMetadata, system_names}
+use Rattle.schema.proofs.Metadata.{no_field}
 use Rattle.typed.specs.WellTyped.{ReadsBack}
 use Rattle.typed.specs.Printing.{object_or_none, with_member, print, print_fields}
 use Rattle.typed.specs.Reading.{content_of}
@@ -68,30 +70,27 @@ found_field k t (field f s more) c ms up h none = by_name (bytes_eq f k) refl (f
         ∙ ap (λ x. print x (inside (name_text k) c)) (same_some s t there)
     by_name false is later there = later there (with_other k f (print s (inside (name_text f) c)) ms (other_name k f is) ∙ none)
 
--- ---- labels and annotations
+-- ---- the fields of `metadata`
 
 -- none of the names that the envelope puts
 abbrev pub HasNone : Members → Type 0
 HasNone ms = (get_member (codes "name") ms ≡ None) × (get_member (codes "namespace") ms ≡ None) × (get_member (codes "resourceVersion") ms ≡ None) × (get_member (codes "managedFields") ms ≡ None)
 
-abbrev two : Option Data → Option Data → Members
-two a l = with_member (codes "labels") l (with_member (codes "annotations") a no_members)
-
-two_have_none : (a l : Option Data) → HasNone (two a l)
-two_have_none None None = (refl, refl, refl, refl)
-two_have_none None (Some l) = (refl, refl, refl, refl)
-two_have_none (Some a) None = (refl, refl, refl, refl)
-two_have_none (Some a) (Some l) = (refl, refl, refl, refl)
-
 -- nothing, or the object of these members
 abbrev pub IsPrinted : Option Data → Type 0
 IsPrinted o = (members : Members) × (o ≡ object_or_none members) × HasNone members
 
-pub metadata_printed : (c : Content) → IsPrinted (print metadata c)
-metadata_printed c =
-    let a = print (map_of text false) (inside (name_text (codes "annotations")) c) in
-    let l = print (map_of text false) (inside (name_text (codes "labels")) c) in
-    (two a l, refl, two_have_none a l)
+pub metadata_printed : (m : Shape) (c : Content) → IsMetadata m → IsPrinted (print m c)
+metadata_printed text c is = absurd (true≢false (sym is.granular))
+metadata_printed whole_number c is = absurd (true≢false (sym is.granular))
+metadata_printed truth c is = absurd (true≢false (sym is.granular))
+metadata_printed (struct_of all true) c is = absurd (true≢false (sym is.granular))
+metadata_printed (struct_of all false) c is =
+    let members = print_fields all c no_members in
+    let none : (k : List ℕ) → is_in system_names k ≡ true → get_member k members ≡ None = λ k among. absent_field k all c no_members (no_field k (struct_of all false) among is) in
+    (members, refl, (none (codes "name") refl, none (codes "namespace") refl, none (codes "resourceVersion") refl, none (codes "managedFields") refl))
+metadata_printed (map_of s b) c is = absurd (true≢false (sym is.granular))
+metadata_printed (list_of s kind) c is = absurd (true≢false (sym is.granular))
 
 pub members_back : (ms : Members) → members_printed (object_or_none ms) ≡ ms
 members_back no_members = refl

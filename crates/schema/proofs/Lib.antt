@@ -1,6 +1,7 @@
 pub mod KeyNames
 pub mod Lists
 pub mod Members
+pub mod Metadata
 pub mod ObjectTests
 pub mod Places
 pub mod Shapes
