@@ -41,12 +41,12 @@ no_root (map_of u is_atomic) h = absurd (true≢false (sym h))
 no_root (list_of u kind) h = absurd (true≢false (sym h))
 
 -- who writes a path writes each prefix of it but the empty one
-prefix_side : (x : Subresource) (p q : PathTexts) → (p ≡ [] → ⊥) → is_prefix p q ≡ true → writes x q ≡ true → writes x p ≡ true
-prefix_side x [] q some prefix is = absurd (some refl)
-prefix_side x (f ∷ p) [] some prefix is = absurd (true≢false (sym prefix))
-prefix_side x (f ∷ p) (g ∷ q) some prefix is =
+prefix_side : (is_apart : Bool) (x : Subresource) (p q : PathTexts) → (p ≡ [] → ⊥) → is_prefix p q ≡ true → writes is_apart x q ≡ true → writes is_apart x p ≡ true
+prefix_side is_apart x [] q some prefix is = absurd (some refl)
+prefix_side is_apart x (f ∷ p) [] some prefix is = absurd (true≢false (sym prefix))
+prefix_side is_apart x (f ∷ p) (g ∷ q) some prefix is =
     let alike = (bytes_eq-Decides f g).0 (and_parts (bytes_eq f g) (is_prefix p q) prefix).0 in
-    ap (λ h. writes x (h ∷ p)) alike ∙ first_decides x g p q ∙ is
+    ap (λ h. writes is_apart x (h ∷ p)) alike ∙ first_decides is_apart x g p q ∙ is
 
 module _ (s t : Shape) (old : State) (c : Content) (formed : is_well_formed s ≡ true) (object : IsObjectShape t) (well_typed : IsWellTypedState s old) (is_one : c ≡ carried s t old.content) (parts : IsCarried s t old.content c) (content : IsContent t c) (stand : LeavesStand s t old.content c) where
   contains-owned : (k : Manager) (p : PathTexts) → set.contains (owned_by (carried_owners (dom c) (made old.content c) old.owners) k) p
@@ -92,18 +92,18 @@ module _ (s t : Shape) (old : State) (c : Content) (formed : is_well_formed s �
   none_at_top there =
       true≢false (sym (places t c ((contents_well_typed t c (and_parts (is_well_formed t) _ object.1).0).0 content) [] there) ∙ ap is_some (no_root t object.0))
 
-  own_sides : OwnSides old → OwnSides (with_content old c)
-  own_sides sides k p owns =
+  own_sides : (is_apart : Bool) → OwnSides is_apart old → OwnSides is_apart (with_content old c)
+  own_sides is_apart sides k p owns =
       by_tests (set.contains (owned_by old.owners k) p) refl (is_some (fin.get c p)) refl (is_some (fin.get old.content p)) (has_at_or_below (owned_by old.owners k) p) refl (sym (contains-owned k p) ∙ owns)
     where
-      by_tests : (a : Bool) → set.contains (owned_by old.owners k) p ≡ a → (b : Bool) → is_some (fin.get c p) ≡ b → (x h : Bool) → has_at_or_below (owned_by old.owners k) p ≡ h → ((a && b) || ((b && not x) && h)) ≡ true → writes k.subresource p ≡ true
+      by_tests : (a : Bool) → set.contains (owned_by old.owners k) p ≡ a → (b : Bool) → is_some (fin.get c p) ≡ b → (x h : Bool) → has_at_or_below (owned_by old.owners k) p ≡ h → ((a && b) || ((b && not x) && h)) ≡ true → writes is_apart k.subresource p ≡ true
       by_tests true own b there x h found is = sides k p own
       by_tests false own false there x h found is = absurd (true≢false (sym is))
       by_tests false own true there true h found is = absurd (true≢false (sym is))
       by_tests false own true there false false found is = absurd (true≢false (sym is))
       by_tests false own true there false true found is =
           let inner = some_below (owned_by old.owners k) p found in
-          prefix_side k.subresource p inner.0 (λ top. none_at_top (sym (ap (λ q. is_some (fin.get c q)) top) ∙ there)) inner.2 (sides k inner.0 inner.1)
+          prefix_side is_apart k.subresource p inner.0 (λ top. none_at_top (sym (ap (λ q. is_some (fin.get c q)) top) ∙ there)) inner.2 (sides k inner.0 inner.1)
 
   state_is : with_content old c ≡ carried_state s t old
   unfolding carried_state

@@ -1,6 +1,6 @@
 -- What becomes of an object whose type has another schema from here on.
 -- Server-Side Apply, "Compatibility across topology changes".
-use Rattle.std.specs.Prelude.{◌≡◌, ◌⊎◌, true, ◌++◌}
+use Rattle.std.specs.Prelude.{◌≡◌, ◌⊎◌, Bool, true, ◌++◌}
 use Rattle.std.specs.FinSet as set
 use Rattle.fieldpath.specs.Paths.{PathTexts}
 use Rattle.pathmap.specs.Contents.{Content, PathSet, dom}
@@ -51,5 +51,5 @@ pub record Carries (s t : Shape) (old new : State) : Type 0 where
   pub well_typed : IsWellTypedState t new
   pub leaves : LeavesPass s t old new
   pub others : OthersStay s t old new
-  pub sides : OwnSides old → OwnSides new
+  pub sides : (is_apart : Bool) → OwnSides is_apart old → OwnSides is_apart new
   pub owned : LeavesOwnedStill s t old new

@@ -125,27 +125,28 @@ fn is_refused(conflicts: &[Conflict], force: bool) -> bool
 
 /// Applies a body (Server-Side Apply, "Field management"): `live` is the object before, empty where there is none,
 /// `manager` the name of who applies, `subresource` by what, `config` the body's content, of which only what the subresource
-/// writes counts. Without `force` a conflict refuses it.
+/// writes counts, which `is_apart` says: whether the type's status is apart. Without `force` a conflict refuses it.
 pub fn apply(
     alloc: Global,
     live: &Owned,
     manager: &str,
+    is_apart: bool,
     subresource: Subresource,
     config: Tree,
     force: bool,
 ) -> Result<Owned, ApplyFault>
-    ensures applies { Applies (state_of live.now) (own_part subresource config) (manager_by manager.now apply_operation subresource) force result }
+    ensures applies { Applies (state_of live.now) (own_part is_apart subresource config) (manager_by manager.now apply_operation subresource) force result }
     ensures others { force ≡ false → IfOk result (λ o. OthersKeep (state_of live.now) (state_of o) (manager_by manager.now apply_operation subresource)) }
-    ensures sides { OwnSides (state_of live.now) → IfOk result (λ o. OwnSides (state_of o)) }
-    ensures apart { OwnSides (state_of live.now) → IfOk result (λ o. OtherSideStays subresource (state_of live.now) (state_of o)) }
+    ensures sides { OwnSides is_apart (state_of live.now) → IfOk result (λ o. OwnSides is_apart (state_of o)) }
+    ensures apart { OwnSides is_apart (state_of live.now) → IfOk result (λ o. OtherSideStays is_apart subresource (state_of live.now) (state_of o)) }
     ensures places { (s : Shape) → HasPlaces s live.now.tree → HasPlaces s config → IfOk result (λ o. HasPlaces s o.tree) }
     ensures stand { OwnedArePresent (state_of live.now) → IfOk result (λ o. OwnedArePresent (state_of o)) }
     ensures leaves { (s : Shape) → HasPlaces s live.now.tree → HasPlaces s config → OwnedArePresent (state_of live.now) → IfOk result (λ o. LeavesOwned s (state_of live.now) (state_of o)) }
     ensures well_typed { (s : Shape) → IsContent s config → IsWellTypedState s (state_of live.now) → IfOk result (λ o. IsWellTypedState s (state_of o)) }
-    ensures again { IfOk result (λ o. IsSettled (state_of o) (own_part subresource config) (manager_by manager.now apply_operation subresource)) }
+    ensures again { IfOk result (λ o. IsSettled (state_of o) (own_part is_apart subresource config) (manager_by manager.now apply_operation subresource)) }
 {
     let manager = Manager::by(alloc, manager, Operation::Apply, subresource)?;
-    let config = own_part(subresource, config);
+    let config = own_part(alloc, is_apart, subresource, config);
     let changed = changed_from(&config, alloc, &live.tree)?;
     let conflicts = conflicts_with_others(&live.managers, alloc, &manager, &changed)?;
     if is_refused(&conflicts, force) {

@@ -1,6 +1,6 @@
 //! What a subresource writes of a content. What a write does with it stands in `applying` and `updating`.
 
-ghost use Rattle.std.specs.Prelude.{◌≡◌, IfOk, codes};
+ghost use Rattle.std.specs.Prelude.{◌≡◌, IfOk, codes, true};
 ghost use Rattle.fieldpath.specs.Paths.{PathTexts};
 ghost use Rattle.pathmap.specs.Parted.{is_in};
 ghost use Rattle.ownership.specs.Sides.{beside_others, own_part, writes};
@@ -9,9 +9,9 @@ use objects::Subresource;
 use std::alloc::{AllocError, Global};
 use typed::{Part, Tree};
 
-/// The part that a subresource writes, by the field `status`.
+/// The part that a subresource writes where the status is apart, by the field `status`.
 fn part_written(subresource: Subresource) -> Part
-    ensures { (p : PathTexts) → is_in result (codes "status") p ≡ writes subresource p }
+    ensures { (p : PathTexts) → is_in result (codes "status") p ≡ writes true subresource p }
 {
     match subresource {
         Subresource::Main => Part::Others,
@@ -20,21 +20,35 @@ fn part_written(subresource: Subresource) -> Part
 }
 
 /// What a subresource writes of a content.
-pub(crate) fn own_part(subresource: Subresource, content: Tree) -> Tree
-    ensures { result ≡ own_part subresource content }
+pub(crate) fn own_part(
+    alloc: Global,
+    is_apart: bool,
+    subresource: Subresource,
+    content: Tree,
+) -> Tree
+    ensures { result ≡ own_part is_apart subresource content }
 {
-    content.part(Subresource::Status.text(), part_written(subresource))
+    match subresource {
+        _ if is_apart => content.part(Subresource::Status.text(), part_written(subresource)),
+        Subresource::Main => content,
+        Subresource::Status => Tree::empty(alloc),
+    }
 }
 
 /// What a subresource writes of a content, beside what it doesn't write of what stands.
 pub(crate) fn beside_others(
     alloc: Global,
+    is_apart: bool,
     subresource: Subresource,
     new: Tree,
     live: &Tree,
 ) -> Result<Tree, AllocError>
-    ensures { IfOk result (λ t. t ≡ beside_others subresource new live.now) }
+    ensures { IfOk result (λ t. t ≡ beside_others is_apart subresource new live.now) }
 {
     let field = Subresource::Status.text();
-    new.part_beside(alloc, field, part_written(subresource), live)
+    match subresource {
+        _ if is_apart => new.part_beside(alloc, field, part_written(subresource), live),
+        Subresource::Main => Ok(new),
+        Subresource::Status => live.try_copy(alloc),
+    }
 }

@@ -58,24 +58,25 @@ fn owners_then(
 
 /// Replaces the content (Server-Side Apply, "Field management"): `live` is the object before, empty where there is none,
 /// `manager` the name of who updates, `subresource` by what, `new` the whole content, of which only what the subresource
-/// writes counts: the rest of what stands stays. Who updates owns what it changed, and keeps what it owned and still stands;
+/// writes counts, which `is_apart` says: whether the type's status is apart. The rest of what stands stays. Who updates owns what it changed, and keeps what it owned and still stands;
 /// the others lose what was changed or removed. An update has no conflict.
 pub fn update(
     alloc: Global,
     live: &Owned,
     manager: &str,
+    is_apart: bool,
     subresource: Subresource,
     new: Tree,
 ) -> Result<Owned, AllocError>
-    ensures updates { IfOk result (λ o. state_of o ≡ updated (state_of live.now) (beside_others subresource new live.now.tree) (manager_by manager.now update_operation subresource)) }
-    ensures sides { OwnSides (state_of live.now) → IfOk result (λ o. OwnSides (state_of o)) }
-    ensures apart { OwnSides (state_of live.now) → IfOk result (λ o. OtherSideStays subresource (state_of live.now) (state_of o)) }
+    ensures updates { IfOk result (λ o. state_of o ≡ updated (state_of live.now) (beside_others is_apart subresource new live.now.tree) (manager_by manager.now update_operation subresource)) }
+    ensures sides { OwnSides is_apart (state_of live.now) → IfOk result (λ o. OwnSides is_apart (state_of o)) }
+    ensures apart { OwnSides is_apart (state_of live.now) → IfOk result (λ o. OtherSideStays is_apart subresource (state_of live.now) (state_of o)) }
     ensures stand { OwnedArePresent (state_of live.now) → IfOk result (λ o. OwnedArePresent (state_of o)) }
     ensures well_typed { (s : Shape) → IsContent s new → IsWellTypedState s (state_of live.now) → IfOk result (λ o. IsWellTypedState s (state_of o)) }
     ensures leaves { (s : Shape) → IfOk result (λ o. LeavesOwned s (state_of live.now) (state_of o)) }
 {
     let manager = Manager::by(alloc, manager, Operation::Update, subresource)?;
-    let new = beside_others(alloc, subresource, new, &live.tree)?;
+    let new = beside_others(alloc, is_apart, subresource, new, &live.tree)?;
     let changed = changed_from(&new, alloc, &live.tree)?;
     let gone = removed(alloc, &live.tree, &new)?;
     let managers = owners_then(&live.managers, alloc, manager, changed, &gone)?;

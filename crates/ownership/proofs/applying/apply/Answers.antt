@@ -15,7 +15,7 @@ use Rattle.ownership.proofs.applying.apply.Goals as goal
 pub returns-then-is_refused : goal.returns-then-is_refused
 returns-then-is_refused c =
     let live = state_of c.args.live.now in
-    let body = own_part c.args.subresource c.args.config in
+    let body = own_part c.args.is_apart c.args.subresource c.args.config in
     let changed_are = c.in_ok-changed.ensures ∙ ap (λ b. changed b live.content) c.own_part-config.ensures in
     let cs = conflicts_are live body (manager_by c.args.manager.now apply_operation c.args.subresource) c.in_ok-changed.changed changed_are
     (map conflict_of c.in_ok-conflicts.conflicts.items) (manager_view c.in_ok-manager.manager) c.in_ok-manager.ensures c.in_ok-conflicts.ensures in
@@ -34,9 +34,10 @@ returns-then-is_refused c =
 pub returns : goal.returns
 returns c =
     let live = state_of c.args.live.now in
+    let apart = c.args.is_apart in
     let x = c.args.subresource in
     let config = c.args.config in
-    let body = own_part x config in
+    let body = own_part apart x config in
     let m = manager_by c.args.manager.now apply_operation x in
     let changed_are = c.in_ok-changed.ensures ∙ ap (λ b. changed b live.content) c.own_part-config.ensures in
     let cs = conflicts_are live body m c.in_ok-changed.changed changed_are
@@ -47,11 +48,11 @@ returns c =
     record {
       applies = (free, is);
       others = keeps_others live body m c.args.force new free is;
-      sides = keeps_sides live config m new is;
-      apart = keeps_apart live config m new is;
-      places = λ s places body_places. keeps_places live body m c.args.force new free is s places (own_places x s config body_places);
+      sides = keeps_sides apart live config m new is;
+      apart = keeps_apart apart live config m new is;
+      places = λ s places body_places. keeps_places live body m c.args.force new free is s places (own_places apart x s config body_places);
       stand = keeps_leaf_value live body m c.args.force new free is;
-      leaves = λ s places body_places. keeps_leaves live body m c.args.force new free is s places (own_places x s config body_places);
-      well_typed = λ s content. keeps_well_typed live body m c.args.force new free is s (own_content x s config content);
+      leaves = λ s places body_places. keeps_leaves live body m c.args.force new free is s places (own_places apart x s config body_places);
+      well_typed = λ s content. keeps_well_typed live body m c.args.force new free is s (own_content apart x s config content);
       again = settles live body m c.args.force new free is;
     }
