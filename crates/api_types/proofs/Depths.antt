@@ -22,7 +22,9 @@ use Rattle.api_types.specs.Depths.{KeepsAt, KeepAt, AreFieldsAt}
 use Rattle.schema.specs.Lawful.{names_of, depth_of, fields_depth, is_well_formed, are_well_formed, item_is_lawful, is_lawful}
 use Rattle.schema.specs.Shape.{Kind, Shape, struct_of, list_of, Fields, no_fields, field, shape, fields_in}
 use Rattle.api_types.specs.TypesFile.{fields_of, fields_at, shape_in, is_envelope, own_properties, put_field}
-use Rattle.schema.specs.ObjectShape.{metadata}
+use Rattle.api_types.specs.Profiles.{metadata_of}
+use Rattle.api_types.specs.declared.profile.Profile.{Profile}
+use Rattle.api_types.specs.declared.profile.Profile.TheVariants.{Plain, Discovered, Kubernetes}
 use Rattle.schema.specs.declared.schema.Schema.{Schema}
 use Rattle.api_types.proofs.Items.{was_field}
 
@@ -198,8 +200,18 @@ put_depth n f s (field g t more) one h =
 le_true : (m n : ℕ) → m ≤ n → nat_le m n ≡ true
 le_true m n h = grind (arith, nat_tests)
 
-pub type_kept : (all : Fields) → AreFieldsAt 1 all → Lacks (codes "metadata") (names_of all) → is_lawful (struct_of (put_field (codes "metadata") metadata all) false) ≡ true
-type_kept all kept lack =
-    let deep : fields_depth (put_field (codes "metadata") metadata all) ≤ 15 = put_depth 15 (codes "metadata") metadata all (omega arith) (omega (arith, kept.0.1)) in
-    both_true (both_true (put_ascend (codes "metadata") metadata all kept.1 lack) (put_well (codes "metadata") metadata all refl kept.0.0))
-    (le_true (suc (fields_depth (put_field (codes "metadata") metadata all))) 16 (omega (arith, deep)))
+own_formed : (p : Profile) → is_well_formed (metadata_of p) ≡ true
+own_formed Plain = refl
+own_formed Discovered = refl
+own_formed (Kubernetes epoch) = refl
+
+own_low : (p : Profile) → depth_of (metadata_of p) ≤ 15
+own_low Plain = omega arith
+own_low Discovered = omega arith
+own_low (Kubernetes epoch) = omega arith
+
+pub type_kept : (p : Profile) (all : Fields) → AreFieldsAt 1 all → Lacks (codes "metadata") (names_of all) → is_lawful (struct_of (put_field (codes "metadata") (metadata_of p) all) false) ≡ true
+type_kept p all kept lack =
+    let deep : fields_depth (put_field (codes "metadata") (metadata_of p) all) ≤ 15 = put_depth 15 (codes "metadata") (metadata_of p) all (own_low p) (omega (arith, kept.0.1)) in
+    both_true (both_true (put_ascend (codes "metadata") (metadata_of p) all kept.1 lack) (put_well (codes "metadata") (metadata_of p) all (own_formed p) kept.0.0))
+    (le_true (suc (fields_depth (put_field (codes "metadata") (metadata_of p) all))) 16 (omega (arith, deep)))

@@ -22,6 +22,7 @@ use Rattle.api_types.specs.declared.fault_place.LocatedFault.{LocatedFault}
 use Rattle.api_types.specs.declared.fault_place.Step.{Step}
 use Rattle.api_types.specs.declared.fault_place.Step.TheVariants as step
 use Rattle.api_types.specs.declared.locate.Broken.{Broken}
+use Rattle.api_types.specs.declared.profile.Profile.TheVariants.{Plain}
 
 -- ---- parts of a schema
 
@@ -151,12 +152,12 @@ pub reported_part : (breaks : TypesFault → ℕ → Data → Type 0) (n : ℕ) 
 reported_part breaks n t b reported (same, number, part) h =
     (number, subst (λ f. TypeBreaks breaks f (option_map (λ p. p.steps.items) reported.place.part) t) (sym same) (subst (λ o. TypeBreaks breaks b.fault o t) (sym part) h))
 
-reported_whole : (breaks : TypesFault → ℕ → Data → Type 0) (n : ℕ) (t : Data) (own : TypesFault) (reported : LocatedFault) → reported.fault ≡ own → reported.place.number ≡ n → reported.place.part ≡ None → FailsWith own (type_of t) → IsReportedOf breaks n t reported
+reported_whole : (breaks : TypesFault → ℕ → Data → Type 0) (n : ℕ) (t : Data) (own : TypesFault) (reported : LocatedFault) → reported.fault ≡ own → reported.place.number ≡ n → reported.place.part ≡ None → FailsWith own (type_of Plain t) → IsReportedOf breaks n t reported
 reported_whole breaks n t own reported same number none h =
-    (number, subst (λ o. TypeBreaks breaks reported.fault (option_map (λ p. p.steps.items) o) t) (sym none) (subst (λ f. FailsWith f (type_of t)) (sym same) h))
+    (number, subst (λ o. TypeBreaks breaks reported.fault (option_map (λ p. p.steps.items) o) t) (sym none) (subst (λ f. FailsWith f (type_of Plain t)) (sym same) h))
 
 -- the fault of a type as a whole before those of its schema
-pub whole_first : (n : ℕ) (t : Data) (own : TypesFault) (reported : LocatedFault) (others all : List LocatedFault) → all ≡ reported ∷ others → reported.fault ≡ own → reported.place.number ≡ n → reported.place.part ≡ None → FailsWith own (type_of t)
+pub whole_first : (n : ℕ) (t : Data) (own : TypesFault) (reported : LocatedFault) (others all : List LocatedFault) → all ≡ reported ∷ others → reported.fault ≡ own → reported.place.number ≡ n → reported.place.part ≡ None → FailsWith own (type_of Plain t)
     → AreReportedOf n t others → AreReportedOf n t all
 whole_first n t own reported others all is same number none h k =
     subst (AreReportedOf n t) (sym is) (All-cons (IsReportedOf Breaks n t) reported others (reported_whole Breaks n t own reported same number none h) k.0, reported_whole EndsReading n t own reported same number none h)

@@ -4,9 +4,12 @@ use Rattle.std.specs.Bool.{beq}
 use Rattle.std.specs.Cmp.Derive.{both_true}
 use Rattle.std.specs.List.{list_any}
 use Rattle.std.specs.Str.{bytes_eq}
-use Rattle.std.proofs.lemmas.Bool.{and_parts}
+use Rattle.std.proofs.lemmas.Bool.{and_parts, eq-eqb}
 use Rattle.std.proofs.lemmas.Slice.Eq.{bytes_eq-Decides}
 use Rattle.schema.specs.Becoming.{are_among, becomes, fields_become, is_same_kind, may_become}
+use Rattle.api_types.specs.Profiles.{is_same}
+use Rattle.api_types.specs.declared.profile.Profile.{Profile}
+use Rattle.api_types.specs.declared.profile.Profile.TheVariants.{Plain, Discovered, Kubernetes}
 use Rattle.api_types.specs.Retyping.{type_may_become, types_may_become}
 use Rattle.schema.specs.Becoming as becoming
 use Rattle.api_types.specs.ChangeLaws.{FieldsStay, NumbersStay, SameIsLawful}
@@ -56,15 +59,20 @@ mutual
   fields_itself r no_fields = refl
   fields_itself r (field f s more) = both_true (bytes_same f) (both_true (shape_itself r s) (fields_itself r more))
 
+profile_itself : (p : Profile) → is_same p p ≡ true
+profile_itself Plain = refl
+profile_itself Discovered = refl
+profile_itself (Kubernetes epoch) = eq-eqb epoch epoch refl
+
 pub itself : SameIsLawful
 itself [] = refl
-itself (t ∷ ts) = both_true (both_true (bool_itself t.is_discovered) (both_true (bytes_same t.group) (both_true (bytes_same t.version) (both_true (bytes_same t.kind) (both_true (bytes_same t.plural) (shape_itself true t.shape)))))) (itself ts)
+itself (t ∷ ts) = both_true (both_true (profile_itself t.profile) (both_true (bytes_same t.group) (both_true (bytes_same t.version) (both_true (bytes_same t.kind) (both_true (bytes_same t.plural) (shape_itself true t.shape)))))) (itself ts)
 
 -- ---- numbers
 
 named_still : (g v p : List ℕ) (t u : ServedShape) → type_may_become t u ≡ true → is_named g v p u ≡ is_named g v p t
 named_still g v p t u h =
-    let group = and_parts (bytes_eq t.group u.group) _ (and_parts (beq t.is_discovered u.is_discovered) _ h).1 in
+    let group = and_parts (bytes_eq t.group u.group) _ (and_parts (is_same t.profile u.profile) _ h).1 in
     let version = and_parts (bytes_eq t.version u.version) _ group.1 in
     let kind = and_parts (bytes_eq t.kind u.kind) _ version.1 in
     let plural = and_parts (bytes_eq t.plural u.plural) _ kind.1 in

@@ -9,7 +9,9 @@ pub mod Placing
 pub mod Pairs
 pub mod Keeping
 pub mod Marks
+pub mod Profiles
 pub mod Reading
 pub mod Sorting
+pub mod StatusStays
 pub mod Texts
 pub mod TypeByType

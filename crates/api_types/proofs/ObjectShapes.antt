@@ -7,9 +7,12 @@ use Rattle.std.specs.Ordering.{is_lt}
 use Rattle.std.specs.Str.{bytes_eq}
 use Rattle.api_types.specs.Depths.{AreFieldsAt}
 use Rattle.schema.specs.Lawful.{names_of}
-use Rattle.schema.specs.ObjectShape.{IsObjectShape, metadata}
+use Rattle.schema.specs.ObjectShape.{IsMetadata, IsObjectShape}
 use Rattle.schema.specs.Shape.{Shape, struct_of, Fields, no_fields, field, shape_at}
+use Rattle.api_types.specs.Profiles.{metadata_of}
 use Rattle.api_types.specs.TypesFile.{is_envelope, put_field}
+use Rattle.api_types.specs.declared.profile.Profile.{Profile}
+use Rattle.api_types.specs.declared.profile.Profile.TheVariants.{Plain, Discovered, Kubernetes}
 use Rattle.api_types.proofs.Depths.{Lacks, type_kept}
 use Rattle.api_types.proofs.Items.{bytes_eq-swap}
 
@@ -43,11 +46,16 @@ put_absent k f s (field g t more) other lack =
     let parts = or_parts (bytes_eq k g) _ lack in
     put_absent_at k f g s t more (is_lt (slice_cmp nat_cmp g f)) other (bytes_eq-swap (bytes_eq g k) false g k refl parts.0) (absent k more parts.1) (put_absent k f s more other parts.1)
 
-pub object_shape : (all : Fields) → AreFieldsAt 1 all → ((k : List ℕ) → is_envelope k ≡ true → Lacks k (names_of all)) → IsObjectShape (struct_of (put_field (codes "metadata") metadata all) false)
-object_shape all kept lack = (
+metadata_is : (p : Profile) → IsMetadata (metadata_of p)
+metadata_is Plain = record { granular = refl; labels = refl; annotations = refl; others = refl }
+metadata_is Discovered = record { granular = refl; labels = refl; annotations = refl; others = refl }
+metadata_is (Kubernetes epoch) = record { granular = refl; labels = refl; annotations = refl; others = refl }
+
+pub object_shape : (p : Profile) (all : Fields) → AreFieldsAt 1 all → ((k : List ℕ) → is_envelope k ≡ true → Lacks k (names_of all)) → IsObjectShape (struct_of (put_field (codes "metadata") (metadata_of p) all) false)
+object_shape p all kept lack = (
   refl,
-  type_kept all kept (lack (codes "metadata") refl),
-  put_found (codes "metadata") metadata all (lack (codes "metadata") refl),
-  put_absent (codes "apiVersion") (codes "metadata") metadata all refl (lack (codes "apiVersion") refl),
-  put_absent (codes "kind") (codes "metadata") metadata all refl (lack (codes "kind") refl),
+  type_kept p all kept (lack (codes "metadata") refl),
+  (metadata_of p, put_found (codes "metadata") (metadata_of p) all (lack (codes "metadata") refl), metadata_is p),
+  put_absent (codes "apiVersion") (codes "metadata") (metadata_of p) all refl (lack (codes "apiVersion") refl),
+  put_absent (codes "kind") (codes "metadata") (metadata_of p) all refl (lack (codes "kind") refl),
 )

@@ -3,9 +3,9 @@ use Rattle.std.proofs.Common.{◌≡◌, ℕ, zero, suc, ◌==◌, Bool, true, f
 use Rattle.std.specs.List.{slice_get}
 use Rattle.std.proofs.lemmas.Bool.{and_parts}
 use Rattle.std.proofs.lemmas.Bool.Decides.{nat_tests}
-use Rattle.std.specs.Bool.{beq}
 use Rattle.std.specs.Str.{bytes_eq}
 use Rattle.schema.specs.Becoming.{is_end, may_become}
+use Rattle.api_types.specs.Profiles.{is_same}
 use Rattle.api_types.specs.Retyping.{is_lawful_change, type_may_become, types_may_become}
 use Rattle.api_types.specs.Served.{served}
 use Rattle.schema.specs.Shape.{fields_in}
@@ -54,7 +54,7 @@ none_before o (Some u) h is = absurd (true≢false (sym (ap is_some is)))
 
 shapes_of : (t u : ServedShape) → type_may_become t u ≡ true → may_become t.shape u.shape ≡ true
 shapes_of t u h =
-    let group = and_parts (bytes_eq t.group u.group) _ (and_parts (beq t.is_discovered u.is_discovered) _ h).1 in
+    let group = and_parts (bytes_eq t.group u.group) _ (and_parts (is_same t.profile u.profile) _ h).1 in
     let version = and_parts (bytes_eq t.version u.version) _ group.1 in
     let kind = and_parts (bytes_eq t.kind u.kind) _ version.1 in
     (and_parts (bytes_eq t.plural u.plural) _ kind.1).1

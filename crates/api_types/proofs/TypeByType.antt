@@ -10,6 +10,7 @@ use Rattle.api_types.specs.TypesFile.{ServedShape, type_of, types_of, one_type}
 use Rattle.api_types.specs.Views.{FailsWith}
 use Rattle.api_types.specs.declared.fault.TypesFault.{TypesFault}
 use Rattle.api_types.specs.declared.fault.TypesFault.TheVariants as faults
+use Rattle.api_types.specs.declared.profile.Profile.{Profile}
 use Rattle.api_types.specs.declared.served.Served.{Served}
 
 -- the types so far, with those that are left
@@ -36,16 +37,16 @@ fails_first faults.SameNames done t left h = rw h refl
 fails_first faults.NotTheForm done t left h = rw h refl
 fails_first faults.Memory done t left h = tt
 
-module _ (vs : List Value) (i : ℕ) (v : Value) (lt : i < length vs) (is : v ≡ get_or vs i v) (whole : Result (List ServedShape) Refusal) (ts : List Served)
-    (kept : whole ≡ after (map served ts) (types_of (items_view (drop i vs)))) where
-  first : whole ≡ after (map served ts) (one_type (type_of (view v)) (types_of (items_view (drop (i + 1) vs))))
+module _ (p : Profile) (vs : List Value) (i : ℕ) (v : Value) (lt : i < length vs) (is : v ≡ get_or vs i v) (whole : Result (List ServedShape) Refusal) (ts : List Served)
+    (kept : whole ≡ after (map served ts) (types_of p (items_view (drop i vs)))) where
+  first : whole ≡ after (map served ts) (one_type (type_of p (view v)) (types_of p (items_view (drop (i + 1) vs))))
   first = kept ∙ ap (after (map served ts))
-      (rw add-one (ap (λ us. types_of (items_view us)) (drop-cons vs i v lt) ∙ ap (λ u. one_type (type_of (view u)) (types_of (items_view (drop (suc i) vs)))) (sym is)))
+      (rw add-one (ap (λ us. types_of p (items_view us)) (drop-cons vs i v lt) ∙ ap (λ u. one_type (type_of p (view u)) (types_of p (items_view (drop (suc i) vs)))) (sym is)))
 
-  pub one_more : (t : Served) → type_of (view v) ≡ Ok (served t) → whole ≡ after (map served (ts ++ t ∷ [])) (types_of (items_view (drop (i + 1) vs)))
+  pub one_more : (t : Served) → type_of p (view v) ≡ Ok (served t) → whole ≡ after (map served (ts ++ t ∷ [])) (types_of p (items_view (drop (i + 1) vs)))
   one_more t read =
-      first ∙ ap (λ r. after (map served ts) (one_type r (types_of (items_view (drop (i + 1) vs))))) read ∙ after_pushed (map served ts) (served t) _
-      ∙ ap (λ us. after us (types_of (items_view (drop (i + 1) vs)))) (sym (map-append served ts (t ∷ [])))
+      first ∙ ap (λ r. after (map served ts) (one_type r (types_of p (items_view (drop (i + 1) vs))))) read ∙ after_pushed (map served ts) (served t) _
+      ∙ ap (λ us. after us (types_of p (items_view (drop (i + 1) vs)))) (sym (map-append served ts (t ∷ [])))
 
-  pub one_fault : (e : TypesFault) → FailsWith e (type_of (view v)) → FailsWith e whole
-  one_fault e h = subst (FailsWith e) (sym first) (fails_first e (map served ts) (type_of (view v)) (types_of (items_view (drop (i + 1) vs))) h)
+  pub one_fault : (e : TypesFault) → FailsWith e (type_of p (view v)) → FailsWith e whole
+  one_fault e h = subst (FailsWith e) (sym first) (fails_first e (map served ts) (type_of p (view v)) (types_of p (items_view (drop (i + 1) vs))) h)

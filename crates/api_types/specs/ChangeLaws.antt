@@ -8,6 +8,7 @@ use Rattle.schema.specs.ObjectShape.{field_of}
 use Rattle.schema.specs.Shape.{Shape}
 use Rattle.api_types.specs.Discovered.{are_discovered, declared_after}
 use Rattle.api_types.specs.TypesFile.{ServedShape, declared_types, type_number}
+use Rattle.api_types.specs.declared.profile.Profile.TheVariants.{Plain}
 
 -- types may stay as they are
 abbrev pub SameIsLawful : Type 0
@@ -27,8 +28,8 @@ MarksStay = (types others : List ServedShape) → types_may_become types others 
 
 -- a types file marks none as discovered, ..
 abbrev pub FilesMarkNone : Type 0
-FilesMarkNone = (file : Data) (types : List ServedShape) → declared_types file ≡ Ok types → are_discovered types ≡ false
+FilesMarkNone = (file : Data) (types : List ServedShape) → declared_types Plain file ≡ Ok types → are_discovered types ≡ false
 
 -- .. and what it declares to follow types that aren't is what it declares
 abbrev pub NoneFollowsNone : Type 0
-NoneFollowsNone = (types : List ServedShape) (file : Data) → are_discovered types ≡ false → declared_after types file ≡ declared_types file
+NoneFollowsNone = (types : List ServedShape) (file : Data) → are_discovered types ≡ false → declared_after types file ≡ declared_types Plain file

@@ -16,6 +16,7 @@ use Rattle.api_types.specs.declared.fault_place.FaultPlace.{FaultPlace}
 use Rattle.api_types.specs.declared.fault_place.LocatedFault.{LocatedFault}
 use Rattle.api_types.specs.declared.fault_place.Step.{Step}
 use Rattle.api_types.specs.declared.locate.Broken.{Broken}
+use Rattle.api_types.specs.declared.profile.Profile.TheVariants.{Plain}
 use Rattle.api_types.specs.declared.fault_place.Step.TheVariants as step
 
 -- the schema behind a step
@@ -59,9 +60,9 @@ IsBroken breaks depth d broken = BreaksAt breaks broken.fault depth broken.part.
 abbrev pub AreBroken : ℕ → Data → List Broken → Type 0
 AreBroken depth d all = All (IsBroken Breaks depth d) all × FirstIs (IsBroken EndsReading depth d) all
 
--- a type breaks it behind these steps from its schema, or else as a whole
+-- a type breaks it behind these steps from its schema, or else as a whole, whatever its profile
 abbrev pub TypeBreaks : (TypesFault → ℕ → Data → Type 0) → TypesFault → Option (List Step) → Data → Type 0
-TypeBreaks breaks fault None t = FailsWith fault (type_of t)
+TypeBreaks breaks fault None t = FailsWith fault (type_of Plain t)
 TypeBreaks breaks fault (Some steps) t = (schema : Data) × (option_and_then (get_member (codes "schema")) (as_object t) ≡ Some schema) × BreaksAt breaks fault 1 steps schema
 
 -- this part of a type's schema breaks its rule
@@ -99,7 +100,7 @@ BeginsBy (Err e) (reported ∷ others) = ReportsFault reported.fault e
 
 -- what is told of a type
 abbrev pub ReportsType : ℕ → Data → List LocatedFault → Type 0
-ReportsType n t all = BeginsBy (type_of t) all × AreReportedOf n t all
+ReportsType n t all = BeginsBy (type_of Plain t) all × AreReportedOf n t all
 
 -- of types in turn, numbered from here
 abbrev pub ReportsTypes : ℕ → Items → List LocatedFault → Type 0

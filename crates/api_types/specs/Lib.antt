@@ -4,6 +4,7 @@ pub mod Names
 pub mod Refusals
 pub mod Keywords
 pub mod Forms
+pub mod Profiles
 pub mod TypesFile
 pub mod ServedViews
 pub mod Served
@@ -11,4 +12,6 @@ pub mod Discovered
 pub mod Views
 pub mod FaultPlaces
 pub mod Retyping
+pub mod Subresources
 pub mod ChangeLaws
+pub mod ProfileLaws

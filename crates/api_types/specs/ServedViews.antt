@@ -5,4 +5,4 @@ use Rattle.api_types.specs.TypesFile.{ServedShape}
 use Rattle.api_types.specs.declared.served.Served.{Served}
 
 abbrev pub served : Served → ServedShape
-served s = record { group = string_bytes s.group; version = string_bytes s.version; kind = string_bytes s.kind; plural = string_bytes s.plural; shape = shape s.schema; is_discovered = s.is_discovered }
+served s = record { group = string_bytes s.group; version = string_bytes s.version; kind = string_bytes s.kind; plural = string_bytes s.plural; shape = shape s.schema; profile = s.profile }

@@ -8,7 +8,6 @@ use Rattle.std.specs.Cmp.Lexicographic.{slice_cmp}
 use Rattle.std.specs.Str.{bytes_eq}
 use Rattle.serde_json.specs.Data.{Data, null, boolean, number, string, array, object, Items, no_items, item, Members, no_members, member}
 use Rattle.serde_json.specs.Find.{get_member, as_object}
-use Rattle.schema.specs.ObjectShape.{metadata}
 use Rattle.schema.specs.Shape.{Shape, struct_of, map_of, list_of, Fields, no_fields, field}
 use Rattle.names.specs.Names.{is_dns_label, is_dns_subdomain}
 use Rattle.api_types.specs.Names.{is_kind_name, is_plural}
@@ -17,6 +16,8 @@ use Rattle.json_values.specs.Members.{has, text_at, members_at, items_at}
 use Rattle.schema.specs.Among.{is_in}
 use Rattle.api_types.specs.Keywords.{has_only}
 use Rattle.api_types.specs.Forms.{Form, object_form, list_form, scalar_form, own_form}
+use Rattle.api_types.specs.Profiles.{metadata_of}
+use Rattle.api_types.specs.declared.profile.Profile.{Profile}
 
 -- ---- shapes
 
@@ -72,8 +73,8 @@ pub record ServedShape : Type 0 where
   pub kind : List ℕ
   pub plural : List ℕ
   pub shape : Shape
-  -- whether documents tell clients of it (`Discovered`); a types file says so of none
-  pub is_discovered : Bool
+  -- which the file is read for
+  pub profile : Profile
 
 -- properties of these names at the top of a type's schema are ignored
 abbrev pub is_envelope : List ℕ → Bool
@@ -94,13 +95,13 @@ type_properties (object_form is_atomic) ms = if is_atomic then None else members
 type_properties (list_form kind) ms = None
 type_properties (scalar_form s) ms = None
 
-abbrev pub type_shape : Option Members → Result Shape Refusal
-type_shape None = Err misfit
-type_shape (Some ms) =
+abbrev pub type_shape : Profile → Option Members → Result Shape Refusal
+type_shape profile None = Err misfit
+type_shape profile (Some ms) =
     and_then (own_form 1 ms) (λ form.
     and_then (some_or misfit (type_properties form ms)) (λ ps.
     and_then (fields_of 1 (own_properties ps)) (λ all.
-    Ok (struct_of (put_field (codes "metadata") metadata all) false))))
+    Ok (struct_of (put_field (codes "metadata") (metadata_of profile) all) false))))
 
 abbrev pub text_where : (List ℕ → Bool) → Option (List ℕ) → Result (List ℕ) Refusal
 text_where p None = Err not_the_form
@@ -115,16 +116,16 @@ abbrev pub type_members : List (List ℕ)
 type_members = codes "group" ∷ codes "kind" ∷ codes "plural" ∷ codes "schema" ∷ codes "version" ∷ []
 
 -- a type: its form, then its schema
-abbrev pub type_of : Data → Result ServedShape Refusal
-type_of d =
+abbrev pub type_of : Profile → Data → Result ServedShape Refusal
+type_of profile d =
     and_then (object_of type_members (as_object d)) (λ ms.
     and_then (text_where is_dns_subdomain (text_at (codes "group") ms)) (λ group.
     and_then (text_where is_dns_label (text_at (codes "version") ms)) (λ version.
     and_then (text_where is_kind_name (text_at (codes "kind") ms)) (λ kind.
     and_then (text_where is_plural (text_at (codes "plural") ms)) (λ plural.
     and_then (some_or not_the_form (get_member (codes "schema") ms)) (λ schema.
-    and_then (type_shape (as_object schema)) (λ s.
-    Ok (record { group = group; version = version; kind = kind; plural = plural; shape = s; is_discovered = false }))))))))
+    and_then (type_shape profile (as_object schema)) (λ s.
+    Ok (record { group = group; version = version; kind = kind; plural = plural; shape = s; profile = profile }))))))))
 
 -- type by type
 abbrev pub one_type : Result ServedShape Refusal → Result (List ServedShape) Refusal → Result (List ServedShape) Refusal
@@ -132,9 +133,9 @@ one_type (Err e) rest = Err e
 one_type (Ok t) (Err e) = Err e
 one_type (Ok t) (Ok ts) = Ok (t ∷ ts)
 
-abbrev pub types_of : Items → Result (List ServedShape) Refusal
-types_of no_items = Ok []
-types_of (item d ds) = one_type (type_of d) (types_of ds)
+abbrev pub types_of : Profile → Items → Result (List ServedShape) Refusal
+types_of profile no_items = Ok []
+types_of profile (item d ds) = one_type (type_of profile d) (types_of profile ds)
 
 abbrev pub is_named : List ℕ → List ℕ → List ℕ → ServedShape → Bool
 is_named group version plural t = bytes_eq group t.group && bytes_eq version t.version && bytes_eq plural t.plural
@@ -160,8 +161,8 @@ listed d =
     and_then (some_or not_the_form (items_at (codes "types") ms)) few)
 
 -- then type by type, and equal names last
-abbrev pub declared_types : Data → Result (List ServedShape) Refusal
-declared_types d = and_then (listed d) (λ ds. and_then (types_of ds) (λ ts. if names_differ ts then Ok ts else Err same_names))
+abbrev pub declared_types : Profile → Data → Result (List ServedShape) Refusal
+declared_types profile d = and_then (listed d) (λ ds. and_then (types_of profile ds) (λ ts. if names_differ ts then Ok ts else Err same_names))
 
 -- the number of the type with these names
 abbrev pub number_from : ℕ → List ℕ → List ℕ → List ℕ → List ServedShape → Option ℕ

@@ -2,7 +2,7 @@
 ghost use Rattle.std.specs.Prelude.{◌≡◌, ℕ, List, true, false, IfErr, IfOk, OnOk, string_bytes, codes, map, length, vec_len, ◌≤◌};
 ghost use Rattle.serde_json.specs.Find.{as_object};
 ghost use Rattle.serde_json.specs.View.{view, items_view, members_view};
-ghost use Rattle.schema.specs.Shape.{shape, map_of, text, fields_in};
+ghost use Rattle.schema.specs.Shape.{shape, fields_in};
 ghost use Rattle.names.specs.Names.{is_dns_label, is_dns_subdomain};
 ghost use Rattle.api_types.specs.Names.{is_kind_name, is_plural};
 ghost use Rattle.json_values.specs.Members.{text_at};
@@ -12,13 +12,14 @@ ghost use Rattle.api_types.specs.Views.{Returns};
 ghost use Rattle.api_types.specs.declared.fault.TypesFault.TheVariants.{NotTheForm};
 ghost use Rattle.api_types.specs.Depths.{AreFieldsAt};
 ghost use Rattle.schema.specs.Lawful.{names_of};
-ghost use Rattle.schema.specs.ObjectShape.{IsObjectShape, metadata};
+ghost use Rattle.schema.specs.ObjectShape.{IsObjectShape};
 ghost use Rattle.std.specs.List.{All, list_any};
 ghost use Rattle.std.specs.Str.{bytes_eq};
 
 use crate::fault::TypesFault;
 use crate::forms::{Form, own_form};
 use crate::keywords::has_only;
+use crate::profile::Profile;
 use crate::read::read_schema;
 use crate::served::Served;
 use crate::type_names::{is_kind_name, is_plural};
@@ -59,24 +60,6 @@ fn own_fields(
     Ok(fields)
 }
 
-fn texts_by_name(alloc: Global) -> Result<Schema, AllocError>
-    ensures { IfOk result (λ s. shape s ≡ map_of text false) }
-{
-    Ok(Schema::MapOf(Box::new(alloc, Schema::Text)?, false))
-}
-
-fn metadata(alloc: Global) -> Result<Schema, AllocError>
-    ensures { IfOk result (λ s. shape s ≡ metadata) }
-{
-    let mut fields = Vec::new(alloc);
-    fields.push((
-        String::from_str(alloc, "annotations")?,
-        texts_by_name(alloc)?,
-    ))?;
-    fields.push((String::from_str(alloc, "labels")?, texts_by_name(alloc)?))?;
-    Ok(Schema::Struct(fields, false))
-}
-
 fn put_field(
     fields: &mut Vec<(String, Schema)>,
     name: String,
@@ -93,8 +76,12 @@ fn put_field(
 }
 
 /// Reads the schema of a type, and adds what every type has.
-fn read_root(alloc: Global, schema: &Map<String, Value>) -> Result<Schema, TypesFault>
-    ensures read { Returns shape result (type_shape (Some (members_view schema.now.entries))) }
+fn read_root(
+    alloc: Global,
+    profile: Profile,
+    schema: &Map<String, Value>,
+) -> Result<Schema, TypesFault>
+    ensures read { Returns shape result (type_shape profile (Some (members_view schema.now.entries))) }
     ensures kept { IfOk result (λ s. IsObjectShape (shape s)) }
 {
     let Form::Object(false) = own_form(alloc, 1, schema)? else {
@@ -107,7 +94,7 @@ fn read_root(alloc: Global, schema: &Map<String, Value>) -> Result<Schema, Types
     put_field(
         &mut fields,
         String::from_str(alloc, "metadata")?,
-        metadata(alloc)?,
+        profile.metadata(alloc)?,
     )?;
     Ok(Schema::Struct(fields, false))
 }
@@ -149,8 +136,12 @@ pub(crate) fn plural_of<'a>(members: &'a Map<String, Value>) -> Result<&'a str, 
 }
 
 /// Reads a type.
-pub(crate) fn read_type(alloc: Global, value: &Value) -> Result<Served, TypesFault>
-    ensures read { Returns served result (type_of (view value.now)) }
+pub(crate) fn read_type(
+    alloc: Global,
+    profile: Profile,
+    value: &Value,
+) -> Result<Served, TypesFault>
+    ensures read { Returns served result (type_of profile (view value.now)) }
     ensures kept { IfOk result (λ t. IsObjectShape (shape t.schema)) }
 {
     let Some(members) = value.as_object() else {
@@ -174,20 +165,24 @@ pub(crate) fn read_type(alloc: Global, value: &Value) -> Result<Served, TypesFau
         version: String::from_str(alloc, version)?,
         kind: String::from_str(alloc, kind)?,
         plural: String::from_str(alloc, plural)?,
-        schema: read_root(alloc, schema)?,
-        is_discovered: false,
+        schema: read_root(alloc, profile, schema)?,
+        profile,
     })
 }
 
 /// Reads types in turn.
-pub(crate) fn read_types(alloc: Global, values: &[Value]) -> Result<Vec<Served>, TypesFault>
-    ensures types { Returns (λ v. map served v.items) result (types_of (items_view values.now)) }
+pub(crate) fn read_types(
+    alloc: Global,
+    profile: Profile,
+    values: &[Value],
+) -> Result<Vec<Served>, TypesFault>
+    ensures types { Returns (λ v. map served v.items) result (types_of profile (items_view values.now)) }
     ensures each { IfOk result (λ v. length v.items ≡ length values.now) }
     ensures kept { IfOk result (λ v. All (λ t. IsObjectShape (shape t.schema)) v.items) }
 {
     let mut types = Vec::new(alloc);
     for value in values {
-        types.push(read_type(alloc, value)?)?;
+        types.push(read_type(alloc, profile, value)?)?;
     }
     Ok(types)
 }

@@ -11,6 +11,7 @@ ghost use Rattle.api_types.specs.Keywords.{has_only, keywords};
 ghost use Rattle.api_types.specs.TypesFile.{listed, type_of, type_properties};
 ghost use Rattle.api_types.specs.Views.{form_view};
 ghost use Rattle.api_types.specs.declared.fault_place.LocatedFault.{LocatedFault};
+ghost use Rattle.api_types.specs.declared.profile.Profile.TheVariants.{Plain};
 
 use crate::fault::TypesFault;
 use crate::fault_place::{FaultPlace, LocatedFault, Part, Step};
@@ -18,6 +19,7 @@ use crate::file::{group_of, is_envelope, listed, plural_of, read_type, version_o
 use crate::forms::{Form, known_form};
 use crate::keywords::{KEYWORDS, has_only};
 use crate::lawful::MAX_DEPTH;
+use crate::profile::Profile;
 use json_values::{copied, member, members_at, text_at};
 use schema::is_in;
 use serde_json::{Map, Value};
@@ -343,9 +345,9 @@ fn all_located(
 
 /// The fault that a type is refused for.
 fn own_fault(alloc: Global, value: &Value) -> Result<Option<TypesFault>, AllocError>
-    ensures { IfOk result (IsRefusedBy (type_of (view value.now))) }
+    ensures { IfOk result (IsRefusedBy (type_of Plain (view value.now))) }
 {
-    let Err(own) = read_type(alloc, value) else {
+    let Err(own) = read_type(alloc, Profile::Plain, value) else {
         return Ok(None);
     };
     if own == TypesFault::Memory {
@@ -371,7 +373,7 @@ fn places_of_refused(
     value: &Value,
     own: TypesFault,
 ) -> Result<Vec<LocatedFault>, AllocError>
-    ensures { IsRefusedBy (type_of (view value.now)) (Some own) → IfOk result (λ v. ReportsType number (view value.now) v.items) }
+    ensures { IsRefusedBy (type_of Plain (view value.now)) (Some own) → IfOk result (λ v. ReportsType number (view value.now) v.items) }
 {
     let broken = find_in_schema(alloc, value)?;
     let mut all = all_located(alloc, number, value, broken)?;

@@ -29,7 +29,7 @@ pub struct Retyping<'a> {
 fn may_become(old: &Served, new: &Served) -> bool
     ensures { result ≡ type_may_become (served old.now) (served new.now) }
 {
-    old.is_discovered == new.is_discovered
+    old.profile == new.profile
         && old.group == new.group
         && old.version == new.version
         && old.kind == new.kind

@@ -4,6 +4,7 @@ ghost use Rattle.std.specs.List.{list_any};
 ghost use Rattle.api_types.specs.Served.{served};
 ghost use Rattle.api_types.specs.TypesFile.{is_named, names_differ};
 
+use crate::profile::Profile;
 use schema::Schema;
 
 /// A type that a types file declares. Its names are those of the Kubernetes docs, "Kubernetes API Concepts", "Resource URIs".
@@ -19,8 +20,8 @@ pub struct Served {
     pub plural: String,
     /// A granular struct.
     pub schema: Schema,
-    /// Whether documents tell clients of it (Kubernetes docs, "The Kubernetes API", "Discovery API"); a types file marks none.
-    pub is_discovered: bool,
+    /// What it follows beside, which its file was read for.
+    pub profile: Profile,
 }
 
 impl Served {

@@ -6,9 +6,10 @@ ghost use Rattle.std.specs.List.{list_all};
 ghost use Rattle.schema.specs.ObjectTest.{is_object_shape};
 ghost use Rattle.schema.specs.Shape.{shape};
 
-use crate::discovered::{are_discovered, mark_all};
+use crate::discovered::are_discovered;
 use crate::fault::TypesFault;
 use crate::file::{listed, read_types};
+use crate::profile::Profile;
 use crate::served::{Served, names_differ};
 use serde_json::Value;
 use std::alloc::Global;
@@ -26,7 +27,7 @@ impl Types {
     ghost use Rattle.std.specs.Prelude.{◌≡◌, ℕ, Some, true, slice_get, option_map, map, IfSome};
     ghost use Rattle.std.specs.List.{All};
     ghost use Rattle.serde_json.specs.View.{view};
-    ghost use Rattle.api_types.specs.Discovered.{are_discovered, discovered, with_marks_of};
+    ghost use Rattle.api_types.specs.Discovered.{are_discovered, profile_of};
     ghost use Rattle.api_types.specs.Served.{served, types_view};
     ghost use Rattle.schema.specs.Lawful.{is_granular_struct, is_lawful};
     ghost use Rattle.schema.specs.ObjectShape.{IsObjectShape};
@@ -36,12 +37,13 @@ impl Types {
     ghost use Rattle.api_types.specs.TypesFile.{ServedShape, declared_types, names_differ, type_number};
 
     /// Reads a types file: `{"types":[..]}`, each type an object with `group`, `version`, `kind`, `plural` and a `schema`.
+    /// The types follow the profile.
     /// Refuses a file by its first fault: its own form and number of types, then type by type, and types with equal names last.
-    pub fn read(alloc: Global, value: &Value) -> Result<Types, TypesFault>
-        ensures { Returns types_view result (declared_types (view value.now)) }
+    pub fn read(alloc: Global, profile: Profile, value: &Value) -> Result<Types, TypesFault>
+        ensures { Returns types_view result (declared_types profile (view value.now)) }
     {
         let values = listed(value)?;
-        let all = read_types(alloc, values)?;
+        let all = read_types(alloc, profile, values)?;
         if !names_differ(&all) {
             return Err(TypesFault::SameNames);
         }
@@ -87,22 +89,13 @@ impl Types {
         are_discovered(&self.all)
     }
 
-    /// The same types, of which documents tell clients.
-    pub fn with_discovery(self) -> Types
-        ensures { types_view result ≡ map discovered (types_view self) }
+    /// What they follow beside what their file declares.
+    pub fn profile(&self) -> Profile
+        ensures { result ≡ profile_of (types_view self.now) }
     {
-        let Types { mut all } = self;
-        mark_all(&mut all);
-        Types { all }
-    }
-
-    /// The same types, of which documents tell if they tell of the others.
-    pub fn with_marks_of(self, others: &Types) -> Types
-        ensures { types_view result ≡ with_marks_of (types_view others.now) (types_view self) }
-    {
-        match others.are_discovered() {
-            true => self.with_discovery(),
-            false => self,
+        match self.all.first() {
+            Some(served) => served.profile,
+            None => Profile::Plain,
         }
     }
 

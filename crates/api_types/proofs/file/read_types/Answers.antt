@@ -16,8 +16,8 @@ loop-value-preserved c =
     let i = c.loop-value.value-index in
     let pushed = c.in_ok-push.ensures.items in
     let is_kept : Served → Type 0 = λ t. IsObjectShape (shape t.schema) in
-    let taken = one_more vs i c.value-item.result c.loop-value-test.true c.value-item.is (types_of (items_view vs)) c.loop-value.types.items c.loop-value.invariant.0 c.in_ok-read_type.field-0 c.in_ok-read_type.ensures.read in (
-      taken ∙ ap (λ ts. after (map served ts) (types_of (items_view (drop (i + 1) vs)))) (sym pushed),
+    let taken = one_more c.args.profile vs i c.value-item.result c.loop-value-test.true c.value-item.is (types_of c.args.profile (items_view vs)) c.loop-value.types.items c.loop-value.invariant.0 c.in_ok-read_type.field-0 c.in_ok-read_type.ensures.read in (
+      taken ∙ ap (λ ts. after (map served ts) (types_of c.args.profile (items_view (drop (i + 1) vs)))) (sym pushed),
       ap length pushed ∙ length-append c.loop-value.types.items (c.in_ok-read_type.field-0 ∷ []) ∙ ap (λ n. n + 1) c.loop-value.invariant.1,
       subst (All is_kept) (sym pushed) (All-push is_kept c.loop-value.types.items c.in_ok-read_type.field-0 c.loop-value.invariant.2 c.in_ok-read_type.ensures.kept),
     )

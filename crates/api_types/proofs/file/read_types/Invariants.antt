@@ -10,5 +10,5 @@ use Rattle.api_types.proofs.file.read_types.Given as goal
 
 abbrev pub invariant-loop-value : goal.invariant-loop-value
 invariant-loop-value l =
-    (types_of (items_view l.values) ≡ after (map served l.types.items) (types_of (items_view (drop l.value-index l.values)))) × (length l.types.items ≡ l.value-index)
+    (types_of l.profile (items_view l.values) ≡ after (map served l.types.items) (types_of l.profile (items_view (drop l.value-index l.values)))) × (length l.types.items ≡ l.value-index)
     × All (λ t. IsObjectShape (shape t.schema)) l.types.items

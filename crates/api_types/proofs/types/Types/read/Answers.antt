@@ -10,5 +10,5 @@ pub invariant_of-result-clause-objects : goal.invariant_of-result-clause-objects
 invariant_of-result-clause-objects c = tests c.in_ok-all.all.items c.in_ok-all.ensures.kept
 
 pub invariant_of-result-clause-named : goal.invariant_of-result-clause-named
-invariant_of-result-clause-named c = named (items_view c.deref.result.now) (map served c.in_ok-all.all.items) c.in_ok-all.ensures.types
+invariant_of-result-clause-named c = named c.args.profile (items_view c.deref.result.now) (map served c.in_ok-all.all.items) c.in_ok-all.ensures.types
     (sym (c.names_differ.ensures ∙ ap (λ xs. names_differ (map served xs)) c.deref-2.ensures.value) ∙ c.if-not-names_differ.false)
