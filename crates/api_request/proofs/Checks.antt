@@ -1,5 +1,5 @@
 -- Checks that were passed.
-use Rattle.std.proofs.Common.{◌≡◌, ℕ, Bool, true, false, List, Option, None, Ok, Err, refl, sym, ap, true≢false}
+use Rattle.std.proofs.Common.{◌≡◌, ℕ, Bool, true, false, List, [], Ok, Err, refl, sym, ap, true≢false}
 use Rattle.history.specs.History.{Change}
 use Rattle.api_request.specs.declared.reason.Reason.{Reason}
 use Rattle.api_request.specs.Calls.{Plan}
@@ -28,6 +28,6 @@ pub held : (b : Bool) (r : Reason) (message : List ℕ) (u : Unit {0}) → requi
 held true r message u e = refl
 held false r message u e = absurd (true≢false (sym (ap is_ok e)))
 
-abbrev pub change_in : Validated Plan → Option Change
-change_in (Ok p) = p.change
-change_in (Err d) = None
+abbrev pub changes_in : Validated Plan → List Change
+changes_in (Ok p) = p.changes
+changes_in (Err d) = []

@@ -1,13 +1,13 @@
 -- Documents of discovery beside the places of objects.
-use Rattle.std.proofs.Common.{◌≡◌, ℕ, suc, cond, List, [], ◌∷◌, map, Option, Some, None, is_some, refl, ap, ◌∙◌}
-use Rattle.std.specs.Prelude.{codes, option_and_then, option_map, slice_get}
+use Rattle.std.proofs.Common.{◌≡◌, ℕ, suc, false, cond, List, [], ◌∷◌, map, Option, Some, None, refl, ap, ◌∙◌}
+use Rattle.std.specs.Prelude.{codes, option_and_then, option_map, slice_get, unwrap_or}
 use Rattle.std.specs.Char.{is_ascii}
 use Rattle.std.specs.List.{list_all}
 use Rattle.std.proofs.lemmas.Option.{slice_get-map}
 use Rattle.matchit.specs.Params.{named}
 use Rattle.matchit.specs.Seek.{first}
-use Rattle.schema.specs.ObjectShape.{field_of}
 use Rattle.api_types.specs.Discovered.{discovered}
+use Rattle.api_types.specs.Subresources as subresources
 use Rattle.api_types.specs.TypesFile.{ServedShape, is_named, number_from}
 use Rattle.discovery.specs.Paths.{document_at}
 use Rattle.api_request.specs.Admit.{Parts, RequestInfo, document_admitted, has_status, kind_in, kind_with, parts_by, path_admitted, place_by, place_in, place_of, routes}
@@ -20,9 +20,9 @@ numbers_still n group version plural [] = refl
 numbers_still n group version plural (t ∷ ts) = ap (cond (is_named group version plural t) (Some n)) (numbers_still (suc n) group version plural ts)
 
 status_still : (ts : List ServedShape) (n : ℕ) → has_status (map discovered ts) n ≡ has_status ts n
-status_still ts n = ap (λ o. is_some (option_and_then (λ (t : ServedShape). field_of (codes "status") t.shape) o)) (slice_get-map discovered ts n) ∙ go (slice_get ts n)
+status_still ts n = ap (λ o. unwrap_or (option_map subresources.has_status o) false) (slice_get-map discovered ts n) ∙ go (slice_get ts n)
   where
-    go : (o : Option ServedShape) → is_some (option_and_then (λ (t : ServedShape). field_of (codes "status") t.shape) (option_map discovered o)) ≡ is_some (option_and_then (λ (t : ServedShape). field_of (codes "status") t.shape) o)
+    go : (o : Option ServedShape) → unwrap_or (option_map subresources.has_status (option_map discovered o)) false ≡ unwrap_or (option_map subresources.has_status o) false
     go None = refl
     go (Some t) = refl
 
@@ -57,5 +57,5 @@ pub only_objects : OnlyObjects
 only_objects types method path media none = go (place_of types path)
   where
     go : (o : Option RequestInfo) → path_admitted types o method path media ≡ admitted_at o method media
-    go None = ap (λ b. document_admitted (cond b (document_at types path) None) method path) none
+    go None = ap (λ b. document_admitted (cond b (document_at types path) None) method) none
     go (Some place) = refl

@@ -4,6 +4,7 @@ pub mod Checks
 pub mod Documents
 pub mod Found
 pub mod Leading
+pub mod Onlys
 pub mod Places
 pub mod Refusals
 pub mod Seeking

@@ -1,8 +1,9 @@
 -- Which calls are served: the route of a path, its methods, the media type of its body
 -- (Kubernetes docs, "Kubernetes API Concepts", "Resource URIs", "Custom Resources", "Status subresource"; RFC 9110, sections 8.3 and 10.2.1).
-use Rattle.std.specs.Prelude.{◌≡◌, ℕ, Bool, true, false, ◌||◌, ◌==◌, List, [], ◌∷◌, Option, Some, None, option_map, option_and_then, if◌then◌else◌, is_some, slice_get, codes}
+use Rattle.std.specs.Prelude.{◌≡◌, ℕ, Bool, true, false, ◌||◌, ◌==◌, List, [], ◌∷◌, Option, Some, None, option_map, option_and_then, if◌then◌else◌, slice_get, unwrap_or, codes}
 use Rattle.std.specs.declared.result.Result.{Result}
 use Rattle.std.specs.declared.result.Result.TheVariants.{Ok, Err}
+use Rattle.std.specs.Bool.{then_some}
 use Rattle.std.specs.Char.{is_ascii}
 use Rattle.std.specs.List.{list_all, list_any, join_by, before_first}
 use Rattle.std.specs.Str.{bytes_eq, str_eq_ignore_ascii_case}
@@ -12,16 +13,21 @@ use Rattle.matchit.specs.Order.{placed}
 use Rattle.matchit.specs.Route.{Scan, parse_route}
 use Rattle.matchit.specs.Seek.{first}
 use Rattle.matchit.specs.Params.{walk, named}
-use Rattle.schema.specs.ObjectShape.{field_of}
+use Rattle.api_types.specs.Subresources as subresources
 use Rattle.api_types.specs.TypesFile.{ServedShape, type_number}
-use Rattle.discovery.specs.Paths.{Document, document_in}
+use Rattle.discovery.specs.declared.document.Document.{Document}
+use Rattle.discovery.specs.Paths.{document_in}
+use Rattle.objects.specs.declared.manager.Subresource.{Subresource}
+use Rattle.objects.specs.declared.manager.Subresource.TheVariants as subresource
 use Rattle.api_request.specs.declared.method.Method.{Method}
 use Rattle.api_request.specs.declared.method.Method.TheVariants.{Get, Post, Put, Patch, Delete}
 use Rattle.api_request.specs.declared.reason.Reason.{Reason}
 use Rattle.api_request.specs.declared.reason.Reason.TheVariants.{NotFound, MethodNotAllowed, UnsupportedMediaType}
 use Rattle.api_request.specs.declared.resource.Resource.{Resource}
 use Rattle.api_request.specs.declared.resource.Resource.TheVariants.{AllNamespaces, Collection, Object, Status}
-use Rattle.api_request.specs.Calls.{Target, Denied}
+use Rattle.api_request.specs.declared.verb.Verb.{Verb}
+use Rattle.api_request.specs.declared.verb.Verb.TheVariants as verb
+use Rattle.api_request.specs.Calls.{Scope, of_all, of_namespace, of_object, Target, of_objects, of_document, Denied}
 
 -- ---- methods (RFC 9110, section 9.1: they are known by their bytes)
 
@@ -106,9 +112,9 @@ kind_in types parts =
     option_and_then (λ group. option_and_then (λ version. option_and_then (λ plural. type_number group version plural types)
     (named (codes "plural") parts)) (named (codes "version") parts)) (named (codes "group") parts)
 
--- whether objects of the type with this number have a status: its schema has that property
+-- whether objects of the type with this number have a status
 abbrev pub has_status : List ServedShape → ℕ → Bool
-has_status types kind = is_some (option_and_then (λ t. field_of (codes "status") t.shape) (slice_get types kind))
+has_status types kind = unwrap_or (option_map subresources.has_status (slice_get types kind)) false
 
 -- a type, where it has the resource
 abbrev pub kind_with : List ServedShape → Resource → Option ℕ → Option ℕ
@@ -163,11 +169,15 @@ abbrev pub is_apply : Option (List ℕ) → Bool
 is_apply None = false
 is_apply (Some field) = str_eq_ignore_ascii_case (media_type field) apply_type
 
--- whether a body of this media type is taken; a GET has none
-abbrev pub accepts_media : Method → Option (List ℕ) → Bool
-accepts_media Get field = true
-accepts_media Patch field = is_apply field
-accepts_media how field = is_json field
+-- ---- verbs ("API Verbs")
+
+-- what a method asks with a body of this media type, if that is taken; a GET has none
+abbrev pub verb_asked : Method → Option (List ℕ) → Option Verb
+verb_asked Get field = Some verb.Get
+verb_asked Post field = then_some (is_json field) verb.Create
+verb_asked Put field = then_some (is_json field) verb.Update
+verb_asked Patch field = then_some (is_apply field) verb.Apply
+verb_asked Delete field = then_some (is_json field) verb.Delete
 
 -- ---- the three in turn
 
@@ -178,12 +188,25 @@ abbrev pub is_status : Resource → Bool
 is_status Status = true
 is_status resource = false
 
-abbrev pub target_at : RequestInfo → Method → Target
-target_at place method = record { kind = place.kind; namespace = place.namespace; name = place.name; status = is_status place.resource; method = method }
+abbrev pub subresource_at : Resource → Subresource
+subresource_at Status = subresource.Status
+subresource_at resource = subresource.Main
 
-abbrev pub media_admitted : RequestInfo → Method → Option (List ℕ) → Result Target Denied
-media_admitted place method media =
-    if accepts_media method media then Ok (target_at place method) else not_admitted UnsupportedMediaType (codes "media type not served") None
+-- which objects a namespace and a name say
+abbrev pub scope_named : Subresource → Option (List ℕ) → Option (List ℕ) → Scope
+scope_named sub None name = of_all
+scope_named sub (Some namespace) None = of_namespace namespace
+scope_named sub (Some namespace) (Some name) = of_object namespace name sub
+
+abbrev pub scope_at : RequestInfo → Scope
+scope_at place = scope_named (subresource_at place.resource) place.namespace place.name
+
+abbrev pub target_at : RequestInfo → Verb → Target
+target_at place verb = of_objects place.kind (scope_at place) verb
+
+abbrev pub verb_admitted : RequestInfo → Option Verb → Result Target Denied
+verb_admitted place None = not_admitted UnsupportedMediaType (codes "media type not served") None
+verb_admitted place (Some verb) = Ok (target_at place verb)
 
 abbrev pub method_served : Resource → Option Method → Option Method
 method_served r None = None
@@ -191,30 +214,29 @@ method_served r (Some m) = if serves r m then Some m else None
 
 abbrev pub method_admitted : RequestInfo → Option Method → Option (List ℕ) → Result Target Denied
 method_admitted place None media = not_admitted MethodNotAllowed (codes "method not served here") (Some (allowed place.resource))
-method_admitted place (Some m) media = media_admitted place m media
+method_admitted place (Some m) media = verb_admitted place (verb_asked m media)
 
-abbrev pub place_admitted : RequestInfo → List ℕ → Option (List ℕ) → Result Target Denied
-place_admitted place method media = method_admitted place (method_served place.resource (method_named method)) media
+abbrev pub place_admitted : RequestInfo → Option Method → Option (List ℕ) → Result Target Denied
+place_admitted place method media = method_admitted place (method_served place.resource method) media
 
 -- ---- documents, which tell clients of the types (Kubernetes docs, "The Kubernetes API", "Discovery API", "OpenAPI V3")
 
--- a document is a name without a namespace: its path
-abbrev pub document_target : List ℕ → Target
-document_target path = record { kind = 0; namespace = None; name = Some path; status = false; method = Get }
-
 -- served by GET alone
-abbrev pub document_admitted : Option Document → List ℕ → List ℕ → Result Target Denied
-document_admitted None method path = not_admitted NotFound (codes "no such path") None
-document_admitted (Some document) method path =
-    if bytes_eq method (name_of Get) then Ok (document_target path) else not_admitted MethodNotAllowed (codes "method not served here") (Some (name_of Get))
+abbrev pub document_got : Document → Option Method → Result Target Denied
+document_got document (Some Get) = Ok (of_document document)
+document_got document method = not_admitted MethodNotAllowed (codes "method not served here") (Some (name_of Get))
+
+abbrev pub document_admitted : Option Document → Option Method → Result Target Denied
+document_admitted None method = not_admitted NotFound (codes "no such path") None
+document_admitted (Some document) method = document_got document method
 
 -- ---- both
 
 -- by the place that the path leads to, or else the document that is there
-abbrev pub path_admitted : List ServedShape → Option RequestInfo → List ℕ → List ℕ → Option (List ℕ) → Result Target Denied
-path_admitted types None method path media = document_admitted (document_in types path) method path
+abbrev pub path_admitted : List ServedShape → Option RequestInfo → Option Method → List ℕ → Option (List ℕ) → Result Target Denied
+path_admitted types None method path media = document_admitted (document_in types path) method
 path_admitted types (Some place) method path media = place_admitted place method media
 
--- what a request asks, by its method, its path and its `Content-Type`, or why it is refused
-abbrev pub admitted : List ServedShape → List ℕ → List ℕ → Option (List ℕ) → Result Target Denied
+-- what a request asks, by its method (of those that are known), its path and its `Content-Type`, or why it is refused
+abbrev pub admitted : List ServedShape → Option Method → List ℕ → Option (List ℕ) → Result Target Denied
 admitted types method path media = path_admitted types (place_of types path) method path media

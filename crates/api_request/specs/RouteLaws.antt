@@ -6,6 +6,7 @@ use Rattle.std.specs.List.{join_with_byte, list_all}
 use Rattle.matchit.specs.Seek.{has_slash, slash}
 use Rattle.api_types.specs.Discovered.{are_discovered, discovered}
 use Rattle.api_types.specs.TypesFile.{ServedShape, type_number}
+use Rattle.api_request.specs.declared.method.Method.{Method}
 use Rattle.api_request.specs.declared.reason.Reason.TheVariants.{NotFound}
 use Rattle.api_request.specs.declared.resource.Resource.{Resource}
 use Rattle.api_request.specs.declared.resource.Resource.TheVariants.{AllNamespaces, Collection, Object, Status}
@@ -71,11 +72,11 @@ abbrev pub DocumentsLeavePlaces : Type 0
 DocumentsLeavePlaces = (types : List ServedShape) (path : List ℕ) → place_of (map discovered types) path ≡ place_of types path
 
 -- by the place of objects that the path leads to, if there is one
-abbrev pub admitted_at : Option RequestInfo → List ℕ → Option (List ℕ) → Result Target Denied
+abbrev pub admitted_at : Option RequestInfo → Option Method → Option (List ℕ) → Result Target Denied
 admitted_at None method media = not_admitted NotFound (codes "no such path") None
 admitted_at (Some place) method media = place_admitted place method media
 
 -- where none tells of them, only requests of objects are admitted
 abbrev pub OnlyObjects : Type 0
 OnlyObjects =
-    (types : List ServedShape) (method path : List ℕ) (media : Option (List ℕ)) → are_discovered types ≡ false → admitted types method path media ≡ admitted_at (place_of types path) method media
+    (types : List ServedShape) (method : Option Method) (path : List ℕ) (media : Option (List ℕ)) → are_discovered types ≡ false → admitted types method path media ≡ admitted_at (place_of types path) method media

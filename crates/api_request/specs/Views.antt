@@ -1,5 +1,5 @@
 -- What the crate's values stand for.
-use Rattle.std.specs.Prelude.{◌≡◌, ℕ, List, option_map, string_bytes}
+use Rattle.std.specs.Prelude.{◌≡◌, ℕ, List, [], ◌∷◌, map, option_map, string_bytes}
 use Rattle.std.specs.declared.result.Result.{Result}
 use Rattle.std.specs.declared.result.Result.TheVariants.{Ok, Err}
 use Rattle.serde_json.specs.Data.{Data}
@@ -7,15 +7,19 @@ use Rattle.serde_json.specs.View.{view, items_view}
 use Rattle.matchit.specs.Params.{walk}
 use Rattle.matchit.specs.declared.params.Params.{Params}
 use Rattle.history.specs.History.{Change}
-use Rattle.history.specs.Read.{key_of}
+use Rattle.history.specs.Read.{key_of, write_of}
+use Rattle.history.specs.Writes.{changes_by}
 use Rattle.answers.specs.Views.{watch_from}
 use Rattle.api_request.specs.declared.calls.Target.{Target as TheTarget}
+use Rattle.api_request.specs.declared.calls.Target.TheVariants as target
 use Rattle.api_request.specs.declared.calls.Scope.{Scope as TheScope}
 use Rattle.api_request.specs.declared.calls.Scope.TheVariants as scope
 use Rattle.api_request.specs.declared.calls.Call.{Call as TheCall}
 use Rattle.api_request.specs.declared.calls.Answer.{Answer as TheAnswer}
 use Rattle.api_request.specs.declared.calls.Plan.{Plan as ThePlan}
 use Rattle.api_request.specs.declared.change.Change.{Change as TheChange}
+use Rattle.api_request.specs.declared.changes.Changes.{Changes}
+use Rattle.api_request.specs.declared.changes.Changes.TheVariants as made
 use Rattle.api_request.specs.declared.admitting.Denied.{Denied as TheDenied}
 use Rattle.api_request.specs.declared.admitting.AdmitFault.{AdmitFault}
 use Rattle.api_request.specs.declared.admitting.AdmitFault.TheVariants as refusal
@@ -26,19 +30,20 @@ use Rattle.api_request.specs.declared.call_error.CallError.TheVariants as call_e
 use Rattle.api_request.specs.declared.place.RequestInfo.{RequestInfo as ThePlace}
 use Rattle.api_request.specs.declared.reason.Reason.{Reason}
 use Rattle.api_request.specs.Admit.{Parts, RequestInfo}
-use Rattle.api_request.specs.Calls.{Target, Scope, of_all, of_namespace, of_object, Call, Answer, Plan, Denied}
+use Rattle.api_request.specs.Calls.{Target, of_objects, of_document, Scope, of_all, of_namespace, of_object, Call, Answer, Plan, Denied}
 use Rattle.api_request.specs.Status.{CallRefusal}
 use Rattle.api_request.specs.Validated.{Validated, call_refusal}
 
 -- ---- calls and answers
 
-abbrev pub target_of : TheTarget → Target
-target_of t = record { kind = t.kind; namespace = option_map string_bytes t.namespace; name = option_map string_bytes t.name; status = t.status; method = t.method }
-
 abbrev pub scope_seen : TheScope → Scope
 scope_seen scope.All = of_all
-scope_seen (scope.Namespace namespace) = of_namespace namespace.now
-scope_seen (scope.Object namespace name subresource) = of_object namespace.now name.now subresource
+scope_seen (scope.Namespace namespace) = of_namespace (string_bytes namespace)
+scope_seen (scope.Object namespace name subresource) = of_object (string_bytes namespace) (string_bytes name) subresource
+
+abbrev pub target_of : TheTarget → Target
+target_of (target.Objects kind scope verb) = of_objects kind (scope_seen scope) verb
+target_of (target.Document document) = of_document document
 
 abbrev pub body_seen : Body → Data
 body_seen b = view b.value
@@ -52,8 +57,13 @@ answer_of a = record { status = a.status; body = string_bytes a.body; watch = op
 abbrev pub change_of : TheChange → Change
 change_of c = record { revision = c.revision; key = key_of c.key; body = option_map (λ s. string_bytes s.value) c.text }
 
+abbrev pub changes_of : Changes → List Change
+changes_of made.None = []
+changes_of (made.Answered c) = change_of c ∷ []
+changes_of (made.Each writes) = changes_by writes.after (map write_of writes.writes.items)
+
 abbrev pub plan_of : ThePlan → Plan
-plan_of p = record { answer = answer_of p.answer; change = option_map change_of p.change }
+plan_of p = record { answer = answer_of p.answer; changes = changes_of p.changes }
 
 -- ---- refusals
 

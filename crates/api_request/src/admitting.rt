@@ -4,18 +4,17 @@
 ghost use Rattle.std.specs.Prelude.{◌≡◌, IfOk, Err, option_map};
 ghost use Rattle.api_types.specs.Served.{types_view};
 ghost use Rattle.discovery.specs.Paths.{document_in};
-ghost use Rattle.api_request.specs.Admit.{document_admitted, document_target, not_admitted, method_served, place_admitted, target_at};
-ghost use Rattle.api_request.specs.Views.{Admits, place_seen, target_of};
+ghost use Rattle.api_request.specs.Admit.{document_admitted, not_admitted, method_served, place_admitted, scope_at, target_at};
+ghost use Rattle.api_request.specs.Views.{Admits, place_seen, scope_seen, target_of};
 
-use crate::calls::Target;
-use crate::media::accepts_media;
+use crate::calls::{Scope, Target};
 use crate::method::Method;
 use crate::place::RequestInfo;
 use crate::reason::Reason;
 use crate::resource::Resource;
+use crate::verb::Verb;
 use api_types::Types;
 use discovery::document_in;
-use json_values::copied;
 use std::alloc::{AllocError, Global};
 use thiserror::Error;
 
@@ -65,16 +64,25 @@ fn refused(reason: Reason, message: &'static str, allow: Option<&'static str>) -
     })
 }
 
-fn target_at(alloc: Global, place: RequestInfo<'_>, method: Method) -> Result<Target, AllocError>
-    ensures { IfOk result (λ t. target_of t ≡ target_at (place_seen place.entry) method) }
+/// Which objects a place names.
+fn scope_at(alloc: Global, place: RequestInfo<'_>) -> Result<Scope, AllocError>
+    ensures { IfOk result (λ s. scope_seen s ≡ scope_at (place_seen place.entry)) }
 {
-    Ok(Target {
-        kind: place.kind,
-        namespace: copied(alloc, place.namespace)?,
-        name: copied(alloc, place.name)?,
-        status: place.resource.is_status(),
-        method,
-    })
+    let Some(namespace) = place.namespace else {
+        return Ok(Scope::All);
+    };
+    let namespace = String::from_str(alloc, namespace)?;
+    let Some(name) = place.name else {
+        return Ok(Scope::Namespace(namespace));
+    };
+    let name = String::from_str(alloc, name)?;
+    Ok(Scope::Object(namespace, name, place.resource.subresource()))
+}
+
+fn target_at(alloc: Global, place: RequestInfo<'_>, verb: Verb) -> Result<Target, AllocError>
+    ensures { IfOk result (λ t. target_of t ≡ target_at (place_seen place.entry) verb) }
+{
+    Ok(Target::Objects(place.kind, scope_at(alloc, place)?, verb))
 }
 
 fn method_served(resource: Resource, method: Option<Method>) -> Option<Method>
@@ -90,47 +98,34 @@ fn method_served(resource: Resource, method: Option<Method>) -> Option<Method>
 pub fn admitted(
     alloc: Global,
     place: RequestInfo<'_>,
-    method: &str,
+    method: Option<Method>,
     media: Option<&[u8]>,
 ) -> Result<Target, AdmitFault>
-    ensures { Admits result (place_admitted (place_seen place.entry) method.now (option_map (λ b. b.now) media.entry)) }
+    ensures { Admits result (place_admitted (place_seen place.entry) method (option_map (λ b. b.now) media.entry)) }
 {
-    let Some(method) = method_served(place.resource, Method::named(method)) else {
+    let Some(method) = method_served(place.resource, method) else {
         let allowed = place.resource.allowed();
         return Err(refused(Reason::MethodNotAllowed, NOT_SERVED, Some(allowed)));
     };
-    if !accepts_media(method, media) {
+    let Some(verb) = Verb::asked_by(method, media) else {
         return Err(refused(Reason::UnsupportedMediaType, "media type not served", None));
-    }
-    Ok(target_at(alloc, place, method)?)
-}
-
-fn document_target(alloc: Global, path: &str) -> Result<Target, AllocError>
-    ensures { IfOk result (λ t. target_of t ≡ document_target path.now) }
-{
-    Ok(Target {
-        kind: 0,
-        namespace: None,
-        name: Some(String::from_str(alloc, path)?),
-        status: false,
-        method: Method::Get,
-    })
+    };
+    Ok(target_at(alloc, place, verb)?)
 }
 
 /// What a request asks whose path leads to no place: a document of discovery, if there is one.
 pub fn document_admitted(
-    alloc: Global,
     types: &Types,
-    method: &str,
+    method: Option<Method>,
     path: &str,
 ) -> Result<Target, AdmitFault>
-    ensures { Admits result (document_admitted (document_in (types_view types.now) path.now) method.now path.now) }
+    ensures { Admits result (document_admitted (document_in (types_view types.now) path.now) method) }
 {
-    if document_in(types, path).is_none() {
+    let Some(document) = document_in(types, path) else {
         return Err(refused(Reason::NotFound, NO_PATH, None));
+    };
+    match method {
+        Some(Method::Get) => Ok(Target::Document(document)),
+        _ => Err(refused(Reason::MethodNotAllowed, NOT_SERVED, Some("GET"))),
     }
-    if method != "GET" {
-        return Err(refused(Reason::MethodNotAllowed, NOT_SERVED, Some("GET")));
-    }
-    Ok(document_target(alloc, path)?)
 }

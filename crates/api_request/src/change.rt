@@ -6,7 +6,7 @@ ghost use Rattle.history.specs.History.{last_revision};
 use history::Key;
 use std::snapshot::Snapshot;
 
-/// One change of the objects; without a text it is a deletion.
+/// One change of the objects, by a call that answers its text; without a text it is a deletion.
 #[derive(Drop)]
 pub struct Change {
     pub revision: u64,

@@ -3,7 +3,7 @@
 //!
 //! Promises: a path leads where its parts say; a request is refused for its route first, then for its method, then for its
 //! media type; documents are there for discovered types alone; a refusal is told by the Status of its reason.
-//! Stands on `schema` for the types that paths name, `discovery` for documents, `objects` for subresources, `history` for
+//! Stands on `api_types` for the types that paths name, `discovery` for documents, `objects` for subresources, `history` for
 //! keys, `answers` for where a watch begins and for Status objects, `json_values` for values, and on `matchit` for routes.
 #![tactic(auto)]
 
@@ -13,6 +13,7 @@ mod call_error;
 mod call_refusal;
 mod calls;
 mod change;
+mod changes;
 mod media;
 mod method;
 mod parts;
@@ -22,6 +23,7 @@ mod resource;
 mod route;
 mod route_laws;
 mod status;
+mod verb;
 
 pub use admitting::{AdmitFault, Denied, NO_PATH, NOT_SERVED};
 pub use body::{Body, NOT_JSON};
@@ -29,6 +31,7 @@ pub use call_error::CallError;
 pub use call_refusal::CallRefusal;
 pub use calls::{Answer, CREATED, Call, OK, Plan, Scope, Target};
 pub use change::Change;
+pub use changes::{Changes, Writes};
 pub use media::{APPLY_TYPE, JSON_TYPE};
 pub use method::Method;
 pub use place::RequestInfo;
@@ -37,3 +40,4 @@ pub use resource::Resource;
 pub use route::Routes;
 pub use route_laws::{documents_leave_places, paths_lead_by_parts};
 pub use status::status_value;
+pub use verb::Verb;

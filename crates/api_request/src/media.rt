@@ -1,10 +1,8 @@
-//! Which media types a method's body may have. The check stands in `admitting`.
+//! Media types of bodies. What is asked by them stands in `verb`.
 
 ghost use Rattle.std.specs.Prelude.{◌≡◌, ◌==◌, option_map};
 ghost use Rattle.std.specs.List.{before_first};
-ghost use Rattle.api_request.specs.Admit.{is_apply, is_json, media_type, accepts_media, without_leading, without_trailing, is_blank};
-
-use crate::method::Method;
+ghost use Rattle.api_request.specs.Admit.{is_apply, is_json, media_type, without_leading, without_trailing, is_blank};
 
 /// The media type of an apply (Kubernetes docs, "Server-Side Apply", "Serialization").
 pub const APPLY_TYPE: &str = "application/apply-patch+yaml";
@@ -53,7 +51,7 @@ fn media_type(field: &[u8]) -> &[u8]
     without_trailing(without_leading(before_parameters(field)))
 }
 
-fn is_apply(field: Option<&[u8]>) -> bool
+pub fn is_apply(field: Option<&[u8]>) -> bool
     ensures { result ≡ is_apply (option_map (λ b. b.now) field.entry) }
 {
     match field {
@@ -63,22 +61,11 @@ fn is_apply(field: Option<&[u8]>) -> bool
 }
 
 /// JSON, or no media type at all.
-fn is_json(field: Option<&[u8]>) -> bool
+pub fn is_json(field: Option<&[u8]>) -> bool
     ensures { result ≡ is_json (option_map (λ b. b.now) field.entry) }
 {
     match field {
         Some(field) => media_type(field).eq_ignore_ascii_case(JSON_TYPE.as_bytes()),
         None => true,
-    }
-}
-
-/// Whether a body of this media type is accepted.
-pub fn accepts_media(method: Method, field: Option<&[u8]>) -> bool
-    ensures { result ≡ accepts_media method (option_map (λ b. b.now) field.entry) }
-{
-    match method {
-        Method::Get => true,
-        Method::Patch => is_apply(field),
-        Method::Post | Method::Put | Method::Delete => is_json(field),
     }
 }

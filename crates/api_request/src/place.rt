@@ -1,10 +1,8 @@
 //! The place in the routes that a path leads to. The routes stand in `route`.
 
-ghost use Rattle.std.specs.Prelude.{◌≡◌, is_some, option_map};
+ghost use Rattle.std.specs.Prelude.{◌≡◌, option_map};
 ghost use Rattle.matchit.specs.Params.{AllText};
-ghost use Rattle.schema.specs.ObjectShape.{field_of};
 ghost use Rattle.api_types.specs.Served.{types_view};
-ghost use Rattle.schema.specs.Shape.{shape};
 ghost use Rattle.api_request.specs.Admit.{Parts, has_status, kind_in, kind_with, place_in};
 ghost use Rattle.api_request.specs.Parts.{AreParts};
 ghost use Rattle.api_request.specs.Views.{parts_of, place_seen};
@@ -13,7 +11,6 @@ use crate::parts::{PathParts, parts_in};
 use crate::resource::Resource;
 use api_types::Types;
 use matchit::Params;
-use schema::{Schema, field_at};
 
 /// The place that a path leads to.
 #[derive(Clone, Copy, Debug)]
@@ -32,21 +29,12 @@ fn kind_in(types: &Types, parts: PathParts<'_>) -> Option<u32>
     types.find(parts.group?, parts.version?, parts.plural?)
 }
 
-fn has_field(schema: &Schema, name: &str) -> bool
-    ensures { result ≡ is_some (field_of name.now (shape schema.now)) }
-{
-    match schema {
-        Schema::Struct(fields, _) => field_at(fields.as_slice(), name).is_some(),
-        _ => false,
-    }
-}
-
 /// Whether objects of the type with this number have a status.
 fn has_status(types: &Types, kind: u32) -> bool
     ensures { result ≡ has_status (types_view types.now) kind }
 {
     match types.get(kind) {
-        Some(served) => has_field(&served.schema, "status"),
+        Some(served) => served.has_status(),
         None => false,
     }
 }

@@ -1,9 +1,10 @@
 //! What a path leads to, one object, its status or all of a type, and the methods that it serves. The paths stand in `route`.
 
 ghost use Rattle.std.specs.Prelude.{◌≡◌};
-ghost use Rattle.api_request.specs.Admit.{allowed, is_status, serves};
+ghost use Rattle.api_request.specs.Admit.{allowed, is_status, serves, subresource_at};
 
 use crate::method::Method;
+use objects::Subresource;
 
 /// What a path leads to (Kubernetes docs, "Kubernetes API Concepts", "Resource URIs").
 #[derive(Clone, Copy, Debug, PartialEq, Eq)]
@@ -50,6 +51,16 @@ impl Resource {
         match self {
             Resource::Status => true,
             Resource::AllNamespaces | Resource::Collection | Resource::Object => false,
+        }
+    }
+
+    /// Which subresource of an object it is.
+    pub fn subresource(self) -> Subresource
+        ensures { result ≡ subresource_at self }
+    {
+        match self {
+            Resource::Status => Subresource::Status,
+            Resource::AllNamespaces | Resource::Collection | Resource::Object => Subresource::Main,
         }
     }
 }

@@ -6,6 +6,7 @@ ghost use Rattle.api_request.specs.Admit.{FitsIn, routes, with_route};
 
 use crate::admitting::{AdmitFault, admitted, document_admitted};
 use crate::calls::Target;
+use crate::method::Method;
 use crate::place::{RequestInfo, place_in};
 use crate::resource::Resource;
 use api_types::Types;
@@ -81,15 +82,15 @@ impl Routes {
         &self,
         alloc: Global,
         types: &Types,
-        method: &str,
+        method: Option<Method>,
         path: &str,
         media: Option<&[u8]>,
     ) -> Result<Target, AdmitFault>
-        ensures { Admits result (admitted (types_view types.now) method.now path.now (option_map (λ b. b.now) media.entry)) }
+        ensures { Admits result (admitted (types_view types.now) method path.now (option_map (λ b. b.now) media.entry)) }
     {
         match self.place(types, path) {
             Some(place) => admitted(alloc, place, method, media),
-            None => document_admitted(alloc, types, method, path),
+            None => document_admitted(types, method, path),
         }
     }
 }

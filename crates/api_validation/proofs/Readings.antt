@@ -1,5 +1,6 @@
 -- What a query says word for word, it says on each type.
 use Rattle.std.proofs.Common.{◌≡◌, ℕ, Bool, true, false, List, Result, Ok, Err, ap}
+use Rattle.api_types.specs.Profiles.{is_discovered}
 use Rattle.params.specs.declared.parameter.Parameter.{Parameter}
 use Rattle.params.specs.declared.params.Asked.{Asked}
 use Rattle.params.specs.Lenient.{values_read}
@@ -22,4 +23,4 @@ pub others_are_read_by_words : OthersAreReadByWords
 others_are_read_by_words t asked query is = ap (λ (b : Bool). read_or_refused (values_read b asked (pairs_in query))) is
 
 pub words_are_read_on_each : WordsAreReadOnEach
-words_are_read_on_each t asked query values is = ap read_or_refused (by_mark t.is_discovered asked (pairs_in query) values (read_back (params_of asked (pairs_in query)) values is))
+words_are_read_on_each t asked query values is = ap read_or_refused (by_mark (is_discovered t.profile) asked (pairs_in query) values (read_back (params_of asked (pairs_in query)) values is))

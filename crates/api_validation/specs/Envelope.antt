@@ -11,18 +11,18 @@ use Rattle.objects.specs.declared.manager.Subresource.{Subresource}
 use Rattle.schema.specs.Among.{is_in}
 use Rattle.api_types.specs.TypesFile.{ServedShape}
 use Rattle.typed.specs.Without.{Omitted}
-use Rattle.api_request.specs.declared.method.Method.{Method}
-use Rattle.api_request.specs.declared.method.Method.TheVariants.{Post, Patch}
 use Rattle.api_request.specs.declared.reason.Reason.TheVariants.{BadRequest}
+use Rattle.api_request.specs.declared.verb.Verb.{Verb}
+use Rattle.api_request.specs.declared.verb.Verb.TheVariants.{Create, Apply}
 use Rattle.api_request.specs.Validated.{Validated, and_then, refused_for, require}
 
--- what a body has to name, and what it is sent by; without a name the body gives its object's; of the body only what the subresource
+-- what a body has to name, and what is asked with it; without a name the body gives its object's; of the body only what the subresource
 -- writes counts
 pub record Expected : Type 0 where
   pub served : ServedShape
   pub namespace : List ℕ
   pub name : Option (List ℕ)
-  pub method : Method
+  pub verb : Verb
   pub subresource : Subresource
 
 -- the version that the body names, if any, and the body less its envelope, which is read under the type's schema
@@ -103,8 +103,8 @@ abbrev pub version_validated : Option Members → Validated (Option ℕ)
 version_validated metadata = and_then (text_in (codes ".metadata.") (codes "resourceVersion") metadata) version_read
 
 -- a creation is of no version
-abbrev pub version_allowed : Method → Option ℕ → Validated (Unit {0})
-version_allowed Post (Some v) = refused_for BadRequest (codes "metadata.resourceVersion must not be set")
+abbrev pub version_allowed : Verb → Option ℕ → Validated (Unit {0})
+version_allowed Create (Some v) = refused_for BadRequest (codes "metadata.resourceVersion must not be set")
 version_allowed how given = Ok tt
 
 -- an apply doesn't say who owns what (Server-Side Apply, "Managers")
@@ -119,8 +119,8 @@ managers_validated (Some (array ds)) = entries_validated ds
 managers_validated (Some d) = wrong_type (codes ".metadata.") (codes "managedFields")
 
 -- what any other write says of it is ignored
-abbrev pub managers_by : Method → Option Data → Validated (Unit {0})
-managers_by Patch given = managers_validated given
+abbrev pub managers_by : Verb → Option Data → Validated (Unit {0})
+managers_by Apply given = managers_validated given
 managers_by how given = Ok tt
 
 -- ---- the body less its envelope
@@ -158,8 +158,8 @@ metadata_validated of top metadata =
     and_then (given_validated (codes "name") of.name metadata) (λ u.
     and_then (given_validated (codes "namespace") (Some of.namespace) metadata) (λ u.
     and_then (version_validated metadata) (λ version.
-    and_then (version_allowed of.method version) (λ u.
-    and_then (managers_by of.method (member_of (codes "managedFields") metadata)) (λ u.
+    and_then (version_allowed of.verb version) (λ u.
+    and_then (managers_by of.verb (member_of (codes "managedFields") metadata)) (λ u.
     Ok (record { version = version; rest = rest_of top metadata }))))))
 
 abbrev pub object_validated : Expected → Option Members → Validated Envelope

@@ -5,6 +5,7 @@ use Rattle.std.specs.declared.result.Result.TheVariants.{Ok, Err}
 use Rattle.params.specs.declared.parameter.Parameter.{Parameter}
 use Rattle.params.specs.declared.parameter.Parameter.TheVariants.{FieldManager}
 use Rattle.params.specs.declared.params.Asked.{Asked}
+use Rattle.api_types.specs.Profiles.{is_discovered}
 use Rattle.api_types.specs.TypesFile.{ServedShape}
 use Rattle.params.specs.Lenient.{values_read}
 use Rattle.params.specs.Parameters.{name_of}
@@ -32,11 +33,11 @@ parameters_validated asked query = read_or_refused (params_of asked (pairs_in qu
 
 -- on a type: of one that clients discover the query is read leniently
 abbrev pub parameters_for : ServedShape → Asked → List ℕ → Validated Values
-parameters_for t asked query = read_or_refused (values_read t.is_discovered asked (pairs_in query))
+parameters_for t asked query = read_or_refused (values_read (is_discovered t.profile) asked (pairs_in query))
 
 -- of a type that clients don't discover it is read word for word, ..
 abbrev pub OthersAreReadByWords : Type 0
-OthersAreReadByWords = (t : ServedShape) (asked : Asked) (query : List ℕ) → t.is_discovered ≡ false → parameters_for t asked query ≡ parameters_validated asked query
+OthersAreReadByWords = (t : ServedShape) (asked : Asked) (query : List ℕ) → is_discovered t.profile ≡ false → parameters_for t asked query ≡ parameters_validated asked query
 
 -- .. and what is said so is said on each type
 abbrev pub WordsAreReadOnEach : Type 0

@@ -8,7 +8,7 @@ use Rattle.api_validation.specs.declared.envelope.Expected.{Expected as TheExpec
 use Rattle.api_validation.specs.Envelope.{Expected, Envelope, left_out, rest_of}
 
 abbrev pub expected_of : TheExpected → Expected
-expected_of e = record { served = served e.served.now; namespace = e.namespace.now; name = option_map (λ s. s.now) e.name; method = e.method; subresource = e.subresource }
+expected_of e = record { served = served e.served.now; namespace = e.namespace.now; name = option_map (λ s. s.now) e.name; verb = e.verb; subresource = e.subresource }
 
 -- the body less its envelope is read from the body itself
 abbrev pub rest_seen : Data → Data

@@ -12,7 +12,7 @@ ghost use Rattle.api_request.specs.Json.{IsJson};
 ghost use Rattle.api_request.specs.Views.{RefusesFor, Returns};
 ghost use Rattle.api_validation.specs.Views.{envelope_seen, envelope_with, expected_of, metadata_there};
 
-use api_request::{CallError, Method, Reason};
+use api_request::{CallError, Reason, Verb};
 use api_types::Served;
 use json_values::{member, unless_empty};
 use names::version_of;
@@ -28,8 +28,8 @@ pub struct Expected<'a> {
     pub namespace: &'a str,
     /// None where the body gives the name of its object.
     pub name: Option<&'a str>,
-    /// What the body is sent by.
-    pub method: Method,
+    /// What is asked with the body.
+    pub verb: Verb,
     /// What of the body counts.
     pub subresource: Subresource,
 }
@@ -218,10 +218,10 @@ fn validate_version(
 }
 
 /// A creation is of no version.
-fn allow_version(alloc: Global, method: Method, version: Option<u64>) -> Result<(), CallError>
-    ensures { Returns (λ u. u) result (version_allowed method version) }
+fn allow_version(alloc: Global, verb: Verb, version: Option<u64>) -> Result<(), CallError>
+    ensures { Returns (λ u. u) result (version_allowed verb version) }
 {
-    if method != Method::Post || version.is_none() {
+    if verb != Verb::Create || version.is_none() {
         return Ok(());
     }
     let message = "metadata.resourceVersion must not be set";
@@ -239,10 +239,10 @@ fn validate_entries(alloc: Global, entries: &[Value]) -> Result<(), CallError>
 }
 
 /// An apply's body may not say who owns what; what any other write says of it is ignored.
-fn validate_managers(alloc: Global, method: Method, member: Option<&Value>) -> Result<(), CallError>
-    ensures { Returns (λ u. u) result (managers_by method (option_map (λ v. view v.now) member.entry)) }
+fn validate_managers(alloc: Global, verb: Verb, member: Option<&Value>) -> Result<(), CallError>
+    ensures { Returns (λ u. u) result (managers_by verb (option_map (λ v. view v.now) member.entry)) }
 {
-    if method != Method::Patch {
+    if verb != Verb::Apply {
         return Ok(());
     }
     let Some(value) = member else {
@@ -267,9 +267,9 @@ fn validate_metadata(
     validate_given(alloc, metadata, "name", expected.name)?;
     validate_given(alloc, metadata, "namespace", Some(expected.namespace))?;
     let version = validate_version(alloc, metadata)?;
-    allow_version(alloc, expected.method, version)?;
+    allow_version(alloc, expected.verb, version)?;
     let managers = member_of(metadata, "managedFields");
-    validate_managers(alloc, expected.method, managers)?;
+    validate_managers(alloc, expected.verb, managers)?;
     Ok(version)
 }
 

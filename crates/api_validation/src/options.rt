@@ -4,6 +4,7 @@
 ghost use Rattle.std.specs.Prelude.{◌≡◌, codes, option_map};
 ghost use Rattle.serde_json.specs.View.{items_view, members_view, view};
 ghost use Rattle.api_request.specs.declared.reason.Reason.TheVariants.{BadRequest};
+ghost use Rattle.api_types.specs.Profiles.{is_discovered};
 ghost use Rattle.api_types.specs.Served as types;
 ghost use Rattle.api_validation.specs.Options.{are_all, asks_dry_run, is_all, is_blank, is_dry_deletion, is_no_list, may_stand, options_in, options_validated, preconditions_in, preconditions_read, text_in};
 ghost use Rattle.api_request.specs.Views.{RefusesFor, Returns, body_seen};
@@ -146,13 +147,13 @@ pub fn validate_options(
     served: &Served,
     body: Option<&Body>,
 ) -> Result<Option<u64>, CallError>
-    ensures { Returns (λ v. v) result (options_validated (types.served served.now).is_discovered (option_map (λ b. body_seen b.now) body.entry)) }
+    ensures { Returns (λ v. v) result (options_validated (is_discovered (types.served served.now).profile) (option_map (λ b. body_seen b.now) body.entry)) }
 {
     let Some(body) = body else {
         return Ok(None);
     };
     match &body.value {
-        Value::Object(members) => options_in(alloc, served.is_discovered, members),
+        Value::Object(members) => options_in(alloc, served.profile.is_discovered(), members),
         _ => Err(bad_options(alloc)),
     }
 }

@@ -1,5 +1,6 @@
 //! The parameters of a call, and the refusal of a bad one. They are read in the crate `params`.
 
+ghost use Rattle.api_types.specs.Profiles.{is_discovered};
 ghost use Rattle.api_types.specs.Served as types;
 ghost use Rattle.params.specs.Lenient.{values_read};
 ghost use Rattle.params.specs.Query.{pairs_in};
@@ -33,9 +34,9 @@ fn read_for(
     asked: Asked,
     query: &[u8],
 ) -> Result<Params, ParamsFault>
-    ensures { params.Returns values_of result (values_read (types.served served.now).is_discovered asked (pairs_in query.now)) }
+    ensures { params.Returns values_of result (values_read (is_discovered (types.served served.now).profile) asked (pairs_in query.now)) }
 {
-    if served.is_discovered {
+    if served.profile.is_discovered() {
         Params::read_leniently(alloc, asked, query)
     } else {
         Params::read(alloc, asked, query)

@@ -1,10 +1,10 @@
 -- The documents of discovery, as JSON values with their members in the order in which a Kubernetes server prints them
 -- (Kubernetes docs, "The Kubernetes API", "Discovery API", "Unaggregated discovery"; the types APIVersions, APIGroupList, APIGroup and APIResourceList
 -- of its API's package `meta/v1`).
-use Rattle.std.specs.Prelude.{ℕ, Bool, true, List, [], ◌∷◌, ◌++◌, map, is_some, if◌then◌else◌, codes}
+use Rattle.std.specs.Prelude.{ℕ, Bool, true, List, [], ◌∷◌, ◌++◌, map, if◌then◌else◌, codes}
 use Rattle.std.specs.Char.{to_ascii_lowercase}
 use Rattle.json.specs.Json.{Json, boolean, string, array, object, Items, no_items, item, Members, no_members, member}
-use Rattle.schema.specs.ObjectShape.{field_of}
+use Rattle.api_types.specs.Subresources.{has_status}
 use Rattle.api_types.specs.TypesFile.{ServedShape}
 use Rattle.discovery.specs.Groups.{group_version, is_like, firsts}
 use Rattle.discovery.specs.declared.likeness.Likeness.TheVariants.{Group, Version}
@@ -81,10 +81,6 @@ group types t = object (member (codes "kind") (string (codes "APIGroup")) (membe
 -- the kind in small letters, as `kubectl` takes it for one object
 abbrev pub singular : ServedShape → List ℕ
 singular t = map to_ascii_lowercase t.kind
-
--- whether objects of a type have a status: its schema has that property
-abbrev pub has_status : ServedShape → Bool
-has_status t = is_some (field_of (codes "status") t.shape)
 
 -- what is served of objects ("Kubernetes API Concepts", "API Verbs")
 abbrev pub object_verbs : Items

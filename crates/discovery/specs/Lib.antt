@@ -2,5 +2,4 @@ pub mod Groups
 pub mod Documents
 pub mod OpenApi
 pub mod Paths
-pub mod Views
 pub mod Writing

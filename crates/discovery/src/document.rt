@@ -2,37 +2,50 @@
 ghost use Rattle.std.specs.Prelude.{OnOk, IfOk, ◌≡◌, ◌++◌, [], codes, map, option_map, string_bytes};
 ghost use Rattle.json.specs.Print.{print};
 ghost use Rattle.std.specs.Str.{bytes_eq};
+ghost use Rattle.api_types.specs.Served.{types_view};
 ghost use Rattle.api_types.specs.ServedViews.{served};
 ghost use Rattle.discovery.specs.Groups.{group_version};
-ghost use Rattle.discovery.specs.Paths.{document_at, document_by, first_at, fixed_at, text_of, value_of};
-ghost use Rattle.discovery.specs.Views.{document_of};
+ghost use Rattle.discovery.specs.Paths.{document_at, first_at, server_document_at, server_value, text_of, type_document_at, type_value};
 ghost use Rattle.discovery.specs.Writing.{AddsValue};
 
 use crate::groups::{put_group, put_group_list};
 use crate::open_api::{put_open_api, put_open_api_index};
 use crate::resources::put_resource_list;
 use crate::version::{put_api_versions, put_version_info};
-use api_types::Served;
+use api_types::{Served, Types};
 use json::Writer;
 use std::alloc::{AllocError, Global};
 
-/// A document of discovery; those of a group or a version by one of its types.
-#[derive(Clone, Copy)]
-pub enum Document<'a> {
+/// A document of the server.
+#[derive(Clone, Copy, Debug, PartialEq, Eq)]
+pub enum ServerDocument {
     /// The version of the server.
-    OfServer,
+    Version,
     /// The versions of the core group.
-    OfCore,
+    CoreGroup,
     /// All groups.
-    OfGroups,
-    /// One group.
-    OfGroup(&'a Served),
-    /// The resources of a version.
-    OfVersion(&'a Served),
+    Groups,
     /// Where OpenAPI's documents are.
-    OfOpenApi,
-    /// OpenAPI's document of a version.
-    OfVersionOpenApi(&'a Served),
+    OpenApiIndex,
+}
+
+/// A document of a type's group or version.
+#[derive(Clone, Copy, Debug, PartialEq, Eq)]
+pub enum TypeDocument {
+    /// The group.
+    Group,
+    /// The resources of the version.
+    Resources,
+    /// OpenAPI's document of the version.
+    OpenApi,
+}
+
+/// A document of discovery.
+#[derive(Clone, Copy, Debug, PartialEq, Eq)]
+pub enum Document {
+    OfServer(ServerDocument),
+    /// By the number of the type.
+    OfType(u32, TypeDocument),
 }
 
 /// Whether a text is these two, one after the other.
@@ -72,77 +85,88 @@ fn is_version_path(path: &str, prefix: &str, one: &Served) -> bool
     }
 }
 
-fn fixed_at<'a>(path: &str) -> Option<Document<'a>>
-    ensures { option_map document_of result ≡ fixed_at path.now }
+fn server_document_at(path: &str) -> Option<ServerDocument>
+    ensures { result ≡ server_document_at path.now }
 {
-    if path == "/version" {
-        return Some(Document::OfServer);
+    match path {
+        "/version" => Some(ServerDocument::Version),
+        "/api" => Some(ServerDocument::CoreGroup),
+        "/apis" => Some(ServerDocument::Groups),
+        "/openapi/v3" => Some(ServerDocument::OpenApiIndex),
+        _ => None,
     }
-    if path == "/api" {
-        return Some(Document::OfCore);
-    }
-    if path == "/apis" {
-        return Some(Document::OfGroups);
-    }
-    if path == "/openapi/v3" {
-        return Some(Document::OfOpenApi);
-    }
-    None
 }
 
 /// The document of a type's group or version that is at the path.
-fn document_by<'a>(path: &str, one: &'a Served) -> Option<Document<'a>>
-    ensures { option_map document_of result ≡ document_by path.now (served one.now) }
+fn type_document_at(path: &str, one: &Served) -> Option<TypeDocument>
+    ensures { result ≡ type_document_at path.now (served one.now) }
 {
     if is_joined(path, "/apis/", one.group.as_str()) {
-        return Some(Document::OfGroup(one));
+        return Some(TypeDocument::Group);
     }
     if is_version_path(path, "/apis/", one) {
-        return Some(Document::OfVersion(one));
+        return Some(TypeDocument::Resources);
     }
     if is_version_path(path, "/openapi/v3/apis/", one) {
-        return Some(Document::OfVersionOpenApi(one));
+        return Some(TypeDocument::OpenApi);
     }
     None
 }
 
-fn first_at<'a>(path: &str, types: &'a [Served]) -> Option<Document<'a>>
-    ensures { option_map document_of result ≡ first_at path.now (map served types.now) }
+/// That of the first type that has one at the path.
+fn first_at(path: &str, types: &Types) -> Option<Document>
+    ensures { result ≡ first_at path.now (types_view types.now) }
 {
-    for one in types {
-        if let Some(document) = document_by(path, one) {
-            return Some(document);
+    let mut number = 0;
+    let all = types.all();
+    for one in all {
+        if let Some(document) = type_document_at(path, one) {
+            return Some(Document::OfType(number, document));
         }
+        number += 1;
     }
     None
 }
 
 /// The document at a path, of these types.
-pub fn document_at<'a>(types: &'a [Served], path: &str) -> Option<Document<'a>>
-    ensures { option_map document_of result ≡ document_at (map served types.now) path.now }
+pub(crate) fn document_at(types: &Types, path: &str) -> Option<Document>
+    ensures { result ≡ document_at (types_view types.now) path.now }
 {
-    if let Some(document) = fixed_at(path) {
-        return Some(document);
+    match server_document_at(path) {
+        Some(document) => Some(Document::OfServer(document)),
+        None => first_at(path, types),
     }
-    first_at(path, types)
 }
 
-fn put_document(
+fn put_server_document(
     alloc: Global,
     writer: &mut Writer,
     types: &[Served],
-    document: Document<'_>,
+    document: ServerDocument,
 ) -> Result<(), AllocError>
-    ensures { OnOk result (AddsValue (value_of (map served types.now) (document_of document.entry)) writer.old writer.new) }
+    ensures { OnOk result (AddsValue (server_value (map served types.now) document) writer.old writer.new) }
 {
     match document {
-        Document::OfServer => put_version_info(writer),
-        Document::OfCore => put_api_versions(writer),
-        Document::OfGroups => put_group_list(alloc, writer, types),
-        Document::OfGroup(of) => put_group(alloc, writer, types, of),
-        Document::OfVersion(of) => put_resource_list(alloc, writer, types, of),
-        Document::OfOpenApi => put_open_api_index(alloc, writer, types),
-        Document::OfVersionOpenApi(of) => put_open_api(alloc, writer, types, of),
+        ServerDocument::Version => put_version_info(writer),
+        ServerDocument::CoreGroup => put_api_versions(writer),
+        ServerDocument::Groups => put_group_list(alloc, writer, types),
+        ServerDocument::OpenApiIndex => put_open_api_index(alloc, writer, types),
+    }
+}
+
+fn put_type_document(
+    alloc: Global,
+    writer: &mut Writer,
+    types: &[Served],
+    of: &Served,
+    document: TypeDocument,
+) -> Result<(), AllocError>
+    ensures { OnOk result (AddsValue (type_value (map served types.now) (served of.now) document) writer.old writer.new) }
+{
+    match document {
+        TypeDocument::Group => put_group(alloc, writer, types, of),
+        TypeDocument::Resources => put_resource_list(alloc, writer, types, of),
+        TypeDocument::OpenApi => put_open_api(alloc, writer, types, of),
     }
 }
 
@@ -157,11 +181,24 @@ fn written(writer: Writer) -> String
     }
 }
 
-/// The text of a document, of these types.
-pub fn text(alloc: Global, types: &[Served], document: Document<'_>) -> Result<String, AllocError>
-    ensures { IfOk result (λ s. string_bytes s ≡ text_of (map served types.now) (document_of document.entry)) }
+/// The text of a document, of these types; none of a number that no type has.
+pub(crate) fn text(
+    alloc: Global,
+    types: &Types,
+    document: Document,
+) -> Result<Option<String>, AllocError>
+    ensures { IfOk result (λ o. option_map string_bytes o ≡ text_of (types_view types.now) document) }
 {
+    let all = types.all();
     let mut writer = Writer::new(Vec::new(alloc));
-    put_document(alloc, &mut writer, types, document)?;
-    Ok(written(writer))
+    match document {
+        Document::OfServer(document) => put_server_document(alloc, &mut writer, all, document)?,
+        Document::OfType(number, document) => {
+            let Some(of) = types.get(number) else {
+                return Ok(None);
+            };
+            put_type_document(alloc, &mut writer, all, of, document)?;
+        }
+    }
+    Ok(Some(written(writer)))
 }

@@ -16,9 +16,8 @@ mod operations;
 mod put;
 mod resources;
 mod schemas;
-mod status;
 mod type_schema;
 mod version;
 
 pub use discovered::{document_in, text_in};
-pub use document::{Document, document_at, text};
+pub use document::{Document, ServerDocument, TypeDocument};

@@ -9,7 +9,6 @@ ghost use Rattle.discovery.specs.Writing.{Adds, AddsItems, AddsValue};
 
 use crate::likeness::{Likeness, group_version, is_like};
 use crate::put::put;
-use crate::status::has_status;
 use api_types::Served;
 use json::{Token, Writer};
 use std::alloc::{AllocError, Global};
@@ -105,7 +104,7 @@ fn put_status_resource(alloc: Global, writer: &mut Writer, one: &Served) -> Resu
 fn add_status(alloc: Global, writer: &mut Writer, one: &Served) -> Result<(), AllocError>
     ensures { OnOk result (AddsItems (add_status (served one.now)) writer.old writer.new) }
 {
-    if has_status(one) {
+    if one.has_status() {
         return put_status_resource(alloc, writer, one);
     }
     Ok(())
