@@ -1,16 +1,19 @@
 -- Texts of objects under the types that take the place of these.
 use Rattle.std.proofs.Common.{◌≡◌, ℕ, zero, suc, ◌≤◌, Bool, true, false, true≢false, not, List, [], ◌∷◌, Some, refl, sym, ap, ap₂, ◌∙◌, subst}
 use Rattle.std.specs.Prelude.{option_and_then, option_map, slice_get}
-use Rattle.std.specs.Bool.{beq}
 use Rattle.std.specs.Str.{bytes_eq}
 use Rattle.std.proofs.lemmas.Bool.{and_parts}
 use Rattle.std.proofs.lemmas.Slice.Eq.{bytes_eq-Decides}
 use Rattle.schema.specs.Becoming.{may_become}
 use Rattle.api_types.specs.Retyping.{type_may_become, types_may_become}
-use Rattle.api_types.proofs.Marks.{same_mark}
+use Rattle.api_types.proofs.Marks.{same_profile}
 use Rattle.schema.specs.ObjectShape.{IsObjectShape}
 use Rattle.schema.specs.Shape.{Shape}
+use Rattle.api_types.specs.Profiles.{is_same}
+use Rattle.api_types.proofs.StatusStays.{apart_stays}
+use Rattle.api_types.specs.Subresources.{is_apart}
 use Rattle.api_types.specs.TypesFile.{ServedShape}
+use Rattle.api_types.specs.declared.profile.Profile.{Profile}
 use Rattle.history.specs.History.{Key, Object, last_revision}
 use Rattle.objects.specs.ObjectText.{object_text}
 use Rattle.objects.specs.WellTyped.{IsWellTypedState}
@@ -42,24 +45,24 @@ new_type (x ∷ types) (u ∷ next_types) may zero t is =
 new_type (x ∷ types) (u ∷ next_types) may (suc n) t is =
     let rest = new_type types next_types (and_parts (type_may_become x u) (types_may_become types next_types) may).1 n t is in record { u = rest.u; serves = rest.serves; may = rest.may }
 
-abbrev type_of : (group version kind plural : List ℕ) → Shape → Bool → ServedShape
-type_of group version kind plural s is_discovered = record { group = group; version = version; kind = kind; plural = plural; shape = s; is_discovered = is_discovered }
+abbrev type_of : (group version kind plural : List ℕ) → Shape → Profile → ServedShape
+type_of group version kind plural s profile = record { group = group; version = version; kind = kind; plural = plural; shape = s; profile = profile }
 
 -- it has the same names
 module _ (t u : ServedShape) (may : type_may_become t u ≡ true) where
   pub same_names : (s : Shape) → record t { shape = s } ≡ record u { shape = s }
   same_names s =
-      let group = and_parts (bytes_eq t.group u.group) _ (and_parts (beq t.is_discovered u.is_discovered) _ may).1 in
+      let group = and_parts (bytes_eq t.group u.group) _ (and_parts (is_same t.profile u.profile) _ may).1 in
       let version = and_parts (bytes_eq t.version u.version) _ group.1 in
       let kind = and_parts (bytes_eq t.kind u.kind) _ version.1 in
       let plural = and_parts (bytes_eq t.plural u.plural) _ kind.1 in
-      ap (type_of t.group t.version t.kind t.plural s) (sym (same_mark t u may))
-      ∙ ap₂ (λ g v. type_of g v t.kind t.plural s u.is_discovered) ((bytes_eq-Decides t.group u.group).0 group.0) ((bytes_eq-Decides t.version u.version).0 version.0)
-      ∙ ap₂ (λ k p. type_of u.group u.version k p s u.is_discovered) ((bytes_eq-Decides t.kind u.kind).0 kind.0) ((bytes_eq-Decides t.plural u.plural).0 plural.0)
+      ap (type_of t.group t.version t.kind t.plural s) (sym (same_profile t u may))
+      ∙ ap₂ (λ g v. type_of g v t.kind t.plural s u.profile) ((bytes_eq-Decides t.group u.group).0 group.0) ((bytes_eq-Decides t.version u.version).0 version.0)
+      ∙ ap₂ (λ k p. type_of u.group u.version k p s u.profile) ((bytes_eq-Decides t.kind u.kind).0 kind.0) ((bytes_eq-Decides t.plural u.plural).0 plural.0)
 
   pub shape_may : may_become t.shape u.shape ≡ true
   shape_may =
-      let group = and_parts (bytes_eq t.group u.group) _ (and_parts (beq t.is_discovered u.is_discovered) _ may).1 in
+      let group = and_parts (bytes_eq t.group u.group) _ (and_parts (is_same t.profile u.profile) _ may).1 in
       let version = and_parts (bytes_eq t.version u.version) _ group.1 in
       let kind = and_parts (bytes_eq t.kind u.kind) _ version.1 in
       (and_parts (bytes_eq t.plural u.plural) _ kind.1).1
@@ -93,7 +96,7 @@ module _ (types next_types : List ServedShape) (k : Key) (o : Object) (t u : Ser
   new_text r low = record {
     state = carried_state t.shape u.shape (decoded_state t.shape o.body);
     says = new_says r low;
-    sides = carry.sides (subst OwnSides (sym said) text.sides);
+    sides = carry.sides (is_apart u) (subst (λ x. OwnSides (is_apart u) x) (sym said) (subst (λ b. OwnSides b text.state) (sym (apart_stays t u may)) text.sides));
     named = text.named;
   }
 

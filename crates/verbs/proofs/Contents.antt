@@ -84,8 +84,8 @@ validated_rest of top metadata e is =
     let name = passed (given_validated (codes "name") of.name metadata) _ e is in
     let namespace = passed (given_validated (codes "namespace") (Some of.namespace) metadata) _ e name.2 in
     let version = passed (version_validated metadata) _ e namespace.2 in
-    let allowed = passed (version_allowed of.method version.0) _ e version.2 in
-    let managers = passed (managers_by of.method (member_of (codes "managedFields") metadata)) _ e allowed.2 in
+    let allowed = passed (version_allowed of.verb version.0) _ e version.2 in
+    let managers = passed (managers_by of.verb (member_of (codes "managedFields") metadata)) _ e allowed.2 in
     ap rest_in managers.2
 
 less_deep : (a : ℕ) → suc a ≤ 127 → a ≤ 126

@@ -1,5 +1,6 @@
 pub mod Changed
 pub mod Changes
+pub mod Committing
 pub mod Causes
 pub mod Runs
 pub mod Contents

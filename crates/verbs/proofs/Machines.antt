@@ -22,16 +22,16 @@ use Rattle.answers.specs.WatchFrom.{WatchFrom}
 use Rattle.watchline.specs.Opening.{from_parts, initial_in, initial_of, started, opened_by, starts}
 use Rattle.watchline.specs.Watches.{from_history, from_view}
 use Rattle.history.proofs.Wholes.{whole_compacts, whole_fresh}
-use Rattle.api_request.specs.Calls.{Call, Plan, Scope, of_all, of_namespace, of_object, scope_of}
+use Rattle.api_request.specs.Calls.{Call, Plan, Scope, of_all, of_namespace, of_object, Target, of_objects, of_document, type_at}
 use Rattle.api_request.specs.Json.{IsJsonBody}
 use Rattle.api_validation.specs.Parameters.{parameters_for}
 use Rattle.api_request.specs.Validated.{Validated, and_then}
-use Rattle.api_request.specs.declared.method.Method.{Method}
-use Rattle.api_request.specs.declared.method.Method.TheVariants.{Get, Post, Put, Patch, Delete}
+use Rattle.api_request.specs.declared.verb.Verb.{Verb}
+use Rattle.api_request.specs.declared.verb.Verb.TheVariants.{Get, Create, Update, Apply, Delete}
 use Rattle.verbs.specs.Machine.{IsMachine}
 use Rattle.verbs.specs.DryRuns.{is_dry_run, run_by}
 use Rattle.verbs.specs.PromiseLaws.{CallsKeepMachines, CompactionsKeepMachines, MachinesBegin, PlansByViews}
-use Rattle.verbs.specs.Step.{body_of, collection_of, created_as, creation_validated, key_at, list_answered, dispatch_object, page_shown, plan_for, shown_by, step, steps, dispatch_type, dispatch_scope, dispatch_call, watch_shown}
+use Rattle.verbs.specs.Step.{body_of, collection_of, created_as, creation_validated, key_at, list_answered, dispatch_object, page_shown, plan_for, shown_by, step, steps, dispatch_target, dispatch_type, dispatch_scope, dispatch_call, watch_shown}
 use Rattle.verbs.proofs.Changes.{is_history, no_texts}
 use Rattle.verbs.proofs.Promise.{steps_keep_machines}
 
@@ -80,30 +80,33 @@ module _ (types : List ServedShape) (m : History) (is : IsMachine types m) where
   listed_seen t kind namespace (Ok values) = ap list_answered (shown_seen (collection_of t kind namespace) values values.watch)
   listed_seen t kind namespace (Err d) = refl
 
-  by_seen : (scope : Scope) (w : Method) (t : ServedShape) (call : Call) → dispatch_scope scope w t (from_view (view m)) call ≡ dispatch_scope scope w t (from_history m) call
-  by_seen of_all Get t call = listed_seen t call.target.kind None (parameters_for t asked.List call.query)
-  by_seen of_all Post t call = refl
-  by_seen of_all Put t call = refl
-  by_seen of_all Patch t call = refl
-  by_seen of_all Delete t call = refl
-  by_seen (of_namespace namespace) Get t call = listed_seen t call.target.kind (Some namespace) (parameters_for t asked.List call.query)
-  by_seen (of_namespace namespace) Post t call =
-      ap (λ (os : Objects). and_then (body_of call.body) (λ body. and_then (creation_validated t call.target.kind namespace call.query body) (λ c. created_as t m.current (fin.get os c.key) c.key c.intent)))
+  by_seen : (scope : Scope) (w : Verb) (t : ServedShape) (kind : ℕ) (call : Call) → dispatch_scope scope w t kind (from_view (view m)) call ≡ dispatch_scope scope w t kind (from_history m) call
+  by_seen of_all Get t kind call = listed_seen t kind None (parameters_for t asked.List call.query)
+  by_seen of_all Create t kind call = refl
+  by_seen of_all Update t kind call = refl
+  by_seen of_all Apply t kind call = refl
+  by_seen of_all Delete t kind call = refl
+  by_seen (of_namespace namespace) Get t kind call = listed_seen t kind (Some namespace) (parameters_for t asked.List call.query)
+  by_seen (of_namespace namespace) Create t kind call =
+      ap (λ (os : Objects). and_then (body_of call.body) (λ body. and_then (creation_validated t kind namespace call.query body) (λ c. created_as t m.current (fin.get os c.key) c.key c.intent)))
       (current_objects_seen types m is)
-  by_seen (of_namespace namespace) Put t call = refl
-  by_seen (of_namespace namespace) Patch t call = refl
-  by_seen (of_namespace namespace) Delete t call = refl
-  by_seen (of_object namespace name subresource) w t call =
-      ap (λ (os : Objects). dispatch_object w subresource t m.current (fin.get os (key_at call namespace name)) (key_at call namespace name) call.query call.body) (current_objects_seen types m is)
+  by_seen (of_namespace namespace) Update t kind call = refl
+  by_seen (of_namespace namespace) Apply t kind call = refl
+  by_seen (of_namespace namespace) Delete t kind call = refl
+  by_seen (of_object namespace name subresource) w t kind call =
+      ap (λ (os : Objects). dispatch_object w subresource t m.current (fin.get os (key_at kind namespace name)) (key_at kind namespace name) call.query call.body) (current_objects_seen types m is)
 
-  at_seen : (found : Option ServedShape) (scope : Option Scope) (call : Call) → dispatch_type types found scope (from_view (view m)) call ≡ dispatch_type types found scope (from_history m) call
-  at_seen None scope call = refl
-  at_seen (Some t) None call = refl
-  at_seen (Some t) (Some scope) call = by_seen scope call.target.method t call
+  type_seen : (found : Option ServedShape) (kind : ℕ) (scope : Scope) (w : Verb) (call : Call) → dispatch_type found kind scope w (from_view (view m)) call ≡ dispatch_type found kind scope w (from_history m) call
+  type_seen None kind scope w call = refl
+  type_seen (Some t) kind scope w call = by_seen scope w t kind call
+
+  target_seen : (target : Target) (call : Call) → dispatch_target types target (from_view (view m)) call ≡ dispatch_target types target (from_history m) call
+  target_seen (of_objects kind scope w) call = type_seen (slice_get types kind) kind scope w call
+  target_seen (of_document document) call = refl
 
   pub over_seen : (call : Call) → dispatch_call types (from_view (view m)) call ≡ dispatch_call types (from_history m) call
-  over_seen call = at_seen (slice_get types call.target.kind) (scope_of call.target.namespace call.target.name call.target.status) call
+  over_seen call = target_seen call.target call
 
 pub plans_by_views : PlansByViews
 plans_by_views types m call is =
-    sym (ap₂ (λ (os : Objects) (j : Validated Plan). run_by (is_dry_run (slice_get types call.target.kind) call) os (plan_for j)) (current_objects_seen types m is) (over_seen types m is call))
+    sym (ap₂ (λ (os : Objects) (j : Validated Plan). run_by (is_dry_run (type_at types call.target) call) os (plan_for j)) (current_objects_seen types m is) (over_seen types m is call))

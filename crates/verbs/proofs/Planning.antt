@@ -1,5 +1,5 @@
 -- What a call comes to at a machine.
-use Rattle.std.proofs.Common.{◌≡◌, Ok, Err, Bool, true, false, Option, Some, None, refl, sym, ap, subst, ◌∙◌, List, ℕ, true≢false, ltb-true, ltb-false}
+use Rattle.std.proofs.Common.{◌≡◌, Ok, Err, Bool, true, false, Option, Some, None, refl, sym, ap, subst, ◌∙◌, List, [], ◌∷◌, ℕ, true≢false, ltb-true, ltb-false}
 use Rattle.std.specs.Prelude.{◌↔◌, ◌<◌, ◌≤◌, IfSome, IsUtf8, OnOk, String, nat_lt, option_map, slice_get, string_bytes, suc}
 use Rattle.std.specs.declared.alloc.Global.{Global}
 use Rattle.std.proofs.lemmas.Str.{IsUtf8-string_bytes}
@@ -16,14 +16,13 @@ use Rattle.verbs.specs.declared.api.Api.{Api}
 use Rattle.api_request.specs.declared.body.Body.{Body}
 use Rattle.api_request.specs.declared.calls.Call.{Call as TheCall}
 use Rattle.api_request.specs.declared.calls.Plan.{Plan as ThePlan}
-use Rattle.api_request.specs.declared.change.Change.{Change as TheChange}
 use Rattle.api_request.specs.Json.{IsJsonBody}
 use Rattle.api_request.specs.Calls.{Call, Plan}
-use Rattle.verbs.specs.Machine.{AreTexts, IsMachine, IsNext, IsReadable, after, identity_of}
+use Rattle.verbs.specs.Machine.{AreNext, AreTexts, IsMachine, IsNext, IsReadable, after, identity_of}
 use Rattle.verbs.proofs.Changes.{all_push, is_history, machine_next}
 use Rattle.verbs.proofs.Machines.{compactions_keep_machines, plans_by_views, current_objects_seen}
 use Rattle.verbs.proofs.Promise.{plans_come_next}
-use Rattle.api_request.specs.Views.{body_seen, call_of, change_of, plan_of}
+use Rattle.api_request.specs.Views.{body_seen, call_of, plan_of}
 use Rattle.verbs.specs.Views.{ApiRepresents, types_of, objects_in}
 use Rattle.verbs.specs.Step.{planned, planned_over}
 
@@ -54,14 +53,9 @@ bodies_json : (body : Option Body) → IsJsonBody (option_map body_seen body)
 bodies_json None = tt
 bodies_json (Some b) = b.is_json
 
-pub seen_change : (P : Change → Type 0) (change : Option TheChange) → IfSome (option_map change_of change) P → IfSome change (λ c. P (change_of c))
-seen_change P None is = tt
-seen_change P (Some c) is = is
-
-pub planned_next : (types : List ServedShape) (m : History) (call : TheCall) → IsMachine types m → (p : ThePlan) → plan_of p ≡ planned types m (call_of call) → IfSome p.change (λ c. IsNext types m (change_of c))
+pub planned_next : (types : List ServedShape) (m : History) (call : TheCall) → IsMachine types m → (p : ThePlan) → plan_of p ≡ planned types m (call_of call) → AreNext types m (plan_of p).changes
 planned_next types m call is p same =
-    seen_change (IsNext types m) p.change
-    (subst (λ (q : Plan). IfSome q.change (IsNext types m)) (sym same) (plans_come_next types m (call_of call) is (bodies_json call.body)))
+    subst (λ (q : Plan). AreNext types m q.changes) (sym same) (plans_come_next types m (call_of call) is (bodies_json call.body))
 
 -- each body that is written is a string
 pub strings_utf8 : {A : Type 0} (text : A → String Global) (o : Option A) → IfSome (option_map (λ a. string_bytes (text a)) o) IsUtf8
@@ -69,7 +63,7 @@ strings_utf8 text None = tt
 strings_utf8 text (Some a) = IsUtf8-string_bytes (text a)
 
 pub represents_next : (api new : Api) (types : List ServedShape) (m : History) (c : Change) → ApiRepresents api types m → IsNext types m c → IfSome c.body IsUtf8
-    → types_of new ≡ types_of api → new.store ≡ written_in api.store c.key c.body → ApiRepresents new types (after m (Some c))
+    → types_of new ≡ types_of api → new.store ≡ written_in api.store c.key c.body → ApiRepresents new types (after m (c ∷ []))
 represents_next api new types m c represents next text serves store = record {
   is_machine = machine_next types m c represents.is_machine next;
   serves = serves ∙ represents.serves;

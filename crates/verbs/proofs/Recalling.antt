@@ -10,7 +10,8 @@ use Rattle.objects.specs.WellTyped.{IsWellTypedState}
 use Rattle.objects.proofs.Taken.{same_some}
 use Rattle.api_request.specs.declared.calls.Plan.{Plan as ThePlan}
 use Rattle.verbs.specs.declared.cached.CachedState.{CachedState}
-use Rattle.verbs.specs.CachedStateViews.{IsCoherent, IsCoherentAt, IsDecodedFrom}
+use Rattle.verbs.specs.declared.cached.PlannedStates.{PlannedStates}
+use Rattle.verbs.specs.CachedStateViews.{AreCoherentOf, IsCoherent, IsCoherentAt, IsDecodedFrom}
 use Rattle.verbs.specs.Step.{text_at}
 use Rattle.verbs.proofs.Said.{printed_says}
 
@@ -23,6 +24,15 @@ pub right_at : (types : List ServedShape) (kind : ℕ) (t : ServedShape) (known 
     → IfSome known (IsCoherent t) → IfSome known (IsCoherentAt types kind)
 right_at types kind t None is coherent = tt
 right_at types kind t (Some r) is coherent = λ u at. subst (λ (x : ServedShape). IsCoherent x r) (same_some t u (sym is ∙ at)) coherent
+
+-- the same of both states that a plan leaves
+pub both_of : (types : List ServedShape) (kind : ℕ) (t : ServedShape) (states : PlannedStates) → slice_get types kind ≡ Some t
+    → IfSome states.standing (IsCoherentAt types kind) × IfSome states.stored (IsCoherentAt types kind) → AreCoherentOf t states
+both_of types kind t states is coherent = (right_of types kind t states.standing is coherent.0, right_of types kind t states.stored is coherent.1)
+
+pub both_at : (types : List ServedShape) (kind : ℕ) (t : ServedShape) (states : PlannedStates) → slice_get types kind ≡ Some t
+    → AreCoherentOf t states → IfSome states.standing (IsCoherentAt types kind) × IfSome states.stored (IsCoherentAt types kind)
+both_at types kind t states is coherent = (right_at types kind t states.standing is coherent.0, right_at types kind t states.stored is coherent.1)
 
 -- the answer to a write that is stored has the text that says its state
 pub answer_says : {E : Type 0} (t : ServedShape) (k : Key) (n : ℕ) (s : State) (text : List ℕ) (r : Result ThePlan E) → IsObjectShape t.shape → IsWellTypedState t.shape s

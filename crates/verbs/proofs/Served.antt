@@ -12,11 +12,12 @@ use Rattle.api_types.specs.Retyping.{types_may_become}
 use Rattle.schema.specs.ObjectShape.{IsObjectShape}
 use Rattle.schema.specs.ObjectTest.{is_object_shape}
 use Rattle.api_types.specs.Refusals as schemas
-use Rattle.api_types.specs.Discovered.{declared_after, with_marks_of}
+use Rattle.api_types.specs.Discovered.{declared_after}
 use Rattle.api_types.specs.TypesFile.{ServedShape, declared_types}
 use Rattle.api_types.specs.Views.{FailsWith}
 use Rattle.api_types.specs.declared.fault.TypesFault.{TypesFault}
 use Rattle.api_types.specs.declared.fault.TypesFault.TheVariants as types_fault
+use Rattle.api_types.specs.declared.profile.Profile.TheVariants.{Plain}
 use Rattle.schema.proofs.ObjectTests.{test}
 use Rattle.history.specs.History.{Change, History, Key, Object, Objects, last_revision, current_objects}
 use Rattle.history.specs.Read.{write_of}
@@ -44,9 +45,9 @@ are_shaped ts shaped = list_all-from_AllPass (λ t. is_object_shape t.shape) ts 
 
 module _ (types : List ServedShape) (m : History) (file : Data) where
   -- a value that is no types file
-  pub no_file : (e : schemas.Refusal) → declared_types file ≡ Err e → retyping types m file ≡ Err not_types
+  pub no_file : (e : schemas.Refusal) → declared_after types file ≡ Err e → retyping types m file ≡ Err not_types
   unfolding retyping
-  no_file e is = ap (λ r. if_declared types m (schemas.and_then r (λ others. Ok (with_marks_of types others)))) is
+  no_file e is = ap (if_declared types m) is
 
   -- types of objects
   pub declared_is : (next_types : List ServedShape) → declared_after types file ≡ Ok next_types → All (λ t. IsObjectShape t.shape) next_types → retyping types m file ≡ if_compatible types m next_types
@@ -55,7 +56,7 @@ module _ (types : List ServedShape) (m : History) (file : Data) where
       ap (if_declared types m) is ∙ ap (λ (b : Bool). cond b (if_compatible types m next_types) (Err not_types)) (are_shaped next_types shaped)
 
 -- a fault that isn't of memory tells of it
-pub no_types : (fault : TypesFault) (types : List ServedShape) (m : History) (file : Data) → FailsWith fault (declared_types file) → IfSome (retype_refusal (file_fault fault)) (λ why. retyping types m file ≡ Err why)
+pub no_types : (fault : TypesFault) (types : List ServedShape) (m : History) (file : Data) → FailsWith fault (declared_after types file) → IfSome (retype_refusal (file_fault fault)) (λ why. retyping types m file ≡ Err why)
 no_types types_fault.UnknownKeyword types m file is = no_file types m file _ is
 no_types types_fault.UnknownType types m file is = no_file types m file _ is
 no_types types_fault.Misfit types m file is = no_file types m file _ is
@@ -65,7 +66,7 @@ no_types types_fault.NotTheForm types m file is = no_file types m file _ is
 no_types types_fault.Memory types m file is = tt
 
 -- which refusal of the file it is
-pub tells_file : (fault : TypesFault) (file : Data) → FailsWith fault (declared_types file) → IfSome (reported_of_file (file_fault fault)) (IsFileFault file)
+pub tells_file : (fault : TypesFault) (file : Data) → FailsWith fault (declared_types Plain file) → IfSome (reported_of_file (file_fault fault)) (IsFileFault file)
 tells_file types_fault.UnknownKeyword file is = ((λ e. absurd cc), is)
 tells_file types_fault.UnknownType file is = ((λ e. absurd cc), is)
 tells_file types_fault.Misfit file is = ((λ e. absurd cc), is)
@@ -158,12 +159,12 @@ module _ (types next_types ts us : List ServedShape) (old : ts ≡ types) (new :
 
 -- ---- what stands then
 
-all_append : {X : Type 0} (P : X → Type 0) (xs ys : List X) → AllByRecursion P xs → AllByRecursion P ys → AllByRecursion P (xs ++ ys)
+pub all_append : {X : Type 0} (P : X → Type 0) (xs ys : List X) → AllByRecursion P xs → AllByRecursion P ys → AllByRecursion P (xs ++ ys)
 all_append P [] ys all more = more
 all_append P (x ∷ xs) ys all more = (all.0, all_append P xs ys all.1 more)
 
 -- each body that is written is a string
-writes_utf8 : (r : ℕ) (ws : List Write) → AreUnicode (changes_by r (map write_of ws))
+pub writes_utf8 : (r : ℕ) (ws : List Write) → AreUnicode (changes_by r (map write_of ws))
 writes_utf8 r [] = tt
 writes_utf8 r (w ∷ ws) = (strings_utf8 (λ s. s) w.body, writes_utf8 (suc r) ws)
 

@@ -2,6 +2,7 @@
 use Rattle.std.proofs.Common.{◌≡◌, ◌∙◌, ℕ, Bool, true, false, cond, List, Option, Some, None, Ok, Err, refl, sym, subst, true≢false}
 use Rattle.std.specs.Prelude.{slice_get}
 use Rattle.std.specs.FinMap as fin
+use Rattle.api_types.specs.Subresources.{is_apart, is_apart_in}
 use Rattle.api_types.specs.TypesFile.{ServedShape}
 use Rattle.pathmap.specs.Contents.{Content}
 use Rattle.typed.specs.Fitting.{IsContent}
@@ -21,7 +22,7 @@ use Rattle.verbs.proofs.Said.{Shapes, nobody_owns, nothing_well_typed, said_back
 
 -- a content of the type, with owners of its paths, each of paths that its subresource writes
 abbrev pub IsStored : ServedShape → State → Type 0
-IsStored t state = IsWellTypedState t.shape state × OwnSides state
+IsStored t state = IsWellTypedState t.shape state × OwnSides (is_apart t) state
 
 pub nothing_stored : (t : ServedShape) → IsStored t no_state
 nothing_stored t = (nothing_well_typed t.shape, λ k p owns. absurd (true≢false (sym owns ∙ nobody_owns k p)))
@@ -37,21 +38,21 @@ module _ (types : List ServedShape) (objects : Objects) (shapes : Shapes types) 
       subst (λ (u : ServedShape). IsStored u (decoded_state u.shape o.body)) same
       (subst (IsStored x.t) (sym (said_back x.t.shape _ o.revision x.is_text.state o.body (shapes k.kind x.t x.served) x.is_text.says)) (x.is_text.says.well_typed, x.is_text.sides))
 
-  by_type : (k : Key) (found : Option ServedShape) → slice_get types k.kind ≡ found → OwnSides (state_by found (fin.get objects k))
+  by_type : (k : Key) (found : Option ServedShape) → slice_get types k.kind ≡ found → OwnSides (is_apart_in found) (state_by found (fin.get objects k))
   by_type k None is = λ m p owns. absurd (true≢false (sym owns ∙ nobody_owns m p))
   by_type k (Some t) is = (existing_stored t k is (fin.get objects k) refl).1
 
-  pub represents_own : (k : Key) → OwnSides (state_under types objects k)
+  pub represents_own : (k : Key) → OwnSides (is_apart_in (slice_get types k.kind)) (state_under types objects k)
   represents_own k = by_type k (slice_get types k.kind) refl
 
 -- ---- an apply
 
 applied_stored : (t : ServedShape) (before : State) (intent : Intent) → IsContent t.shape intent.content → IsStored t before
-    → IsStored t (applied before (own_part intent.subresource intent.content) (manager_for apply_operation intent))
+    → IsStored t (applied before (own_part (is_apart t) intent.subresource intent.content) (manager_for apply_operation intent))
 applied_stored t before intent content is =
     let m = manager_for apply_operation intent in (
-      applied_well_typed before (own_part intent.subresource intent.content) m t.shape (own_content intent.subresource t.shape intent.content content) is.0,
-      applied_sides before intent.content m is.1,
+      applied_well_typed before (own_part (is_apart t) intent.subresource intent.content) m t.shape (own_content (is_apart t) intent.subresource t.shape intent.content content) is.0,
+      applied_sides (is_apart t) before intent.content m is.1,
     )
 
 -- what an apply answers is what is applied
@@ -64,27 +65,27 @@ owned_is P api_version before config m is_forced s e is = go (is_refused (confli
     go false f = subst P (ok_is _ s f) is
 
 pub owned_stored : (t : ServedShape) (api_version : List ℕ) (before : State) (intent : Intent) (s : State) → IsStored t before → IsContent t.shape intent.content
-    → ownership_validated api_version before (own_part intent.subresource intent.content) (manager_for apply_operation intent) intent.is_forced ≡ Ok s → IsStored t s
+    → ownership_validated api_version before (own_part (is_apart t) intent.subresource intent.content) (manager_for apply_operation intent) intent.is_forced ≡ Ok s → IsStored t s
 owned_stored t api_version before intent s is content e =
-    owned_is (IsStored t) api_version before (own_part intent.subresource intent.content) (manager_for apply_operation intent) intent.is_forced s e (applied_stored t before intent content is)
+    owned_is (IsStored t) api_version before (own_part (is_apart t) intent.subresource intent.content) (manager_for apply_operation intent) intent.is_forced s e (applied_stored t before intent content is)
 
-pub owned_apart : (api_version : List ℕ) (before : State) (intent : Intent) (s : State) → OwnSides before
-    → ownership_validated api_version before (own_part intent.subresource intent.content) (manager_for apply_operation intent) intent.is_forced ≡ Ok s
-    → OtherSideStays intent.subresource before s
-owned_apart api_version before intent s sides e =
+pub owned_apart : (t : ServedShape) (api_version : List ℕ) (before : State) (intent : Intent) (s : State) → OwnSides (is_apart t) before
+    → ownership_validated api_version before (own_part (is_apart t) intent.subresource intent.content) (manager_for apply_operation intent) intent.is_forced ≡ Ok s
+    → OtherSideStays (is_apart t) intent.subresource before s
+owned_apart t api_version before intent s sides e =
     let m = manager_for apply_operation intent in
-    owned_is (OtherSideStays intent.subresource before) api_version before (own_part intent.subresource intent.content) m intent.is_forced s e
-    (applied_apart before intent.content m sides)
+    owned_is (OtherSideStays (is_apart t) intent.subresource before) api_version before (own_part (is_apart t) intent.subresource intent.content) m intent.is_forced s e
+    (applied_apart (is_apart t) before intent.content m sides)
 
 -- ---- an update
 
-pub updated_stored : (t : ServedShape) (before : State) (intent : Intent) → IsContent t.shape intent.content → IsStored t before → IsStored t (updated_by intent before)
+pub updated_stored : (t : ServedShape) (before : State) (intent : Intent) → IsContent t.shape intent.content → IsStored t before → IsStored t (updated_by t intent before)
 updated_stored t before intent content is =
     let m = manager_for update_operation intent in (
-      updated_well_typed before (beside_others intent.subresource intent.content before.content) m t.shape
-          (beside_content intent.subresource t.shape intent.content before.content content is.0.0) is.0,
-      updated_sides before intent.content m is.1,
+      updated_well_typed before (beside_others (is_apart t) intent.subresource intent.content before.content) m t.shape
+          (beside_content (is_apart t) intent.subresource t.shape intent.content before.content content is.0.0) is.0,
+      updated_sides (is_apart t) before intent.content m is.1,
     )
 
-pub updated_by_apart : (before : State) (intent : Intent) → OtherSideStays intent.subresource before (updated_by intent before)
-updated_by_apart before intent = updated_apart before intent.content (manager_for update_operation intent)
+pub updated_by_apart : (t : ServedShape) (before : State) (intent : Intent) → OtherSideStays (is_apart t) intent.subresource before (updated_by t intent before)
+updated_by_apart t before intent = updated_apart (is_apart t) before intent.content (manager_for update_operation intent)

@@ -5,8 +5,10 @@ use Rattle.api_types.specs.TypesFile.{ServedShape}
 use Rattle.objects.specs.State.{State}
 use Rattle.objects.specs.WellTyped.{IsWellTypedState}
 use Rattle.objects.specs.Views.{state_of}
+use Rattle.api_request.specs.Calls.{Target, of_objects, of_document}
 use Rattle.verbs.specs.Machine.{decoded_state}
 use Rattle.verbs.specs.declared.cached.CachedState.{CachedState}
+use Rattle.verbs.specs.declared.cached.PlannedStates.{PlannedStates}
 use Rattle.verbs.specs.declared.slot.Slot.{Slot}
 
 -- the state is the one that the text says of an object of the type
@@ -19,6 +21,18 @@ IsCoherent t r = IsDecodedFrom t (string_bytes r.text) (state_of r.state)
 -- of the type with this number
 abbrev pub IsCoherentAt : List ServedShape → ℕ → CachedState → Type 0
 IsCoherentAt types kind r = (t : ServedShape) → slice_get types kind ≡ Some t → IsCoherent t r
+
+-- of the type whose objects a call is of
+abbrev pub IsCoherentFor : List ServedShape → Target → CachedState → Type 0
+IsCoherentFor types (of_objects kind scope verb) r = IsCoherentAt types kind r
+IsCoherentFor types (of_document document) r = Unit {0}
+
+-- both that a plan leaves
+abbrev pub AreCoherentOf : ServedShape → PlannedStates → Type 0
+AreCoherentOf t s = IfSome s.standing (IsCoherent t) × IfSome s.stored (IsCoherent t)
+
+abbrev pub AreCoherentFor : List ServedShape → Target → PlannedStates → Type 0
+AreCoherentFor types target s = IfSome s.standing (IsCoherentFor types target) × IfSome s.stored (IsCoherentFor types target)
 
 abbrev pub IsCoherentIn : List ServedShape → Slot → Type 0
 IsCoherentIn types slot = IfSome slot.cached (IsCoherentAt types slot.kind)

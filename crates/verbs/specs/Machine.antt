@@ -1,15 +1,16 @@
 -- The machine: a history whose bodies are texts of objects, each of the type and key of its change
 -- (resourceVersion and its order: Kubernetes "API Concepts", "Resource versions").
-use Rattle.std.specs.Prelude.{◌≡◌, ℕ, suc, ◌≤◌, true, IfSome, IsUtf8, List, Option, Some, None, option_and_then, slice_get}
+use Rattle.std.specs.Prelude.{◌≡◌, ℕ, suc, ◌≤◌, true, IfSome, IsUtf8, List, [], ◌∷◌, Option, Some, None, option_and_then, slice_get}
 use Rattle.std.specs.FinMap as fin
 use Rattle.std.specs.List.{All, AllByRecursion}
 use Rattle.serde_json.specs.Read.{read}
 use Rattle.schema.specs.Shape.{Shape}
+use Rattle.api_types.specs.Subresources.{is_apart}
 use Rattle.api_types.specs.TypesFile.{ServedShape}
 use Rattle.pathmap.specs.Contents.{nothing}
 use Rattle.history.specs.History.{Key, Change, Object, Objects, History, last_revision, current_objects, written}
 use Rattle.history.specs.View.{View, state_in}
-use Rattle.history.specs.Whole.{IsWhole}
+use Rattle.history.specs.Whole.{AreThere, IsWhole}
 use Rattle.objects.specs.State.{State}
 use Rattle.objects.specs.ObjectText.{Identity}
 use Rattle.objects.specs.Parts.{parts_in}
@@ -63,7 +64,7 @@ pub record IsNamed (k : Key) : Type 0 where
 pub record IsTextOf (t : ServedShape) (k : Key) (revision : ℕ) (text : List ℕ) : Type 0 where
   pub state : State
   pub says : IsObjectText t.shape (identity_of t k) revision state text
-  pub sides : OwnSides state
+  pub sides : OwnSides (is_apart t) state
   pub named : IsNamed k
 
 -- of the key's type, as it is served now
@@ -111,10 +112,10 @@ pub record IsMachine (types : List ServedShape) (m : History) : Type 0 where
 abbrev pub AreUnicode : List Change → Type 0
 AreUnicode = AllByRecursion (λ c. IfSome c.body IsUtf8)
 
--- the machine after a call that made this change, or none
-abbrev pub after : History → Option Change → History
-after m None = m
-after m (Some c) = written m c.key c.body
+-- the machine after a call that made these changes, one after the other
+abbrev pub after : History → List Change → History
+after m [] = m
+after m (c ∷ cs) = after (written m c.key c.body) cs
 
 -- a change that may come next: it has the next revision; a deletion is of what stands, and a text is an object's of a type that is served now
 pub record IsNext (types : List ServedShape) (m : History) (c : Change) : Type 0 where
@@ -123,7 +124,17 @@ pub record IsNext (types : List ServedShape) (m : History) (c : Change) : Type 0
   pub there : c.body ≡ None → fin.contains_key (current_objects m) c.key ≡ true
   pub is_text : IfSome c.body (IsTextAt types c.key c.revision)
 
--- a change that may come after what is seen: it has the next revision, and a deletion is of what stands
-pub record ComesAfter (v : View) (c : Change) : Type 0 where
-  pub next : c.revision ≡ suc v.current
-  pub there : c.body ≡ None → fin.contains_key (state_in v v.current) c.key ≡ true
+-- changes that may come next, one after the other
+abbrev pub AreNext : List ServedShape → History → List Change → Type 0
+AreNext types m [] = Unit {0}
+AreNext types m (c ∷ cs) = IsNext types m c × AreNext types (written m c.key c.body) cs
+
+-- each has the next revision
+abbrev pub AreNumbered : ℕ → List Change → Type 0
+AreNumbered r [] = Unit {0}
+AreNumbered r (c ∷ cs) = (c.revision ≡ suc r) × AreNumbered (suc r) cs
+
+-- changes that may come after what is seen: they have the next revisions, and each deletion is of what stands then
+pub record ComeAfter (v : View) (cs : List Change) : Type 0 where
+  pub next : AreNumbered v.current cs
+  pub there : AreThere (state_in v v.current) cs

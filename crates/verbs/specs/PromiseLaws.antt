@@ -1,6 +1,6 @@
 -- What a call leaves to the managers of other fields (Kubernetes docs, "Server-Side Apply", "Conflicts", "Transferring ownership"; "Custom
 -- Resources", "Status subresource"), and what it leaves of the machine.
-use Rattle.std.specs.Prelude.{◌≡◌, ◌⊎◌, ◌≤◌, ℕ, false, List, length, Option, Some, None, IfSome, option_and_then, slice_get, true}
+use Rattle.std.specs.Prelude.{◌≡◌, ◌⊎◌, ◌≤◌, ℕ, false, List, [], ◌∷◌, length, Option, Some, IfSome, option_and_then, slice_get, true}
 use Rattle.std.specs.Option.{option_or}
 use Rattle.std.specs.declared.result.Result.TheVariants.{Ok, Err}
 use Rattle.std.specs.FinMap as fin
@@ -9,10 +9,11 @@ use Rattle.params.specs.Values.{Values}
 use Rattle.params.specs.declared.params.Asked.TheVariants as asked
 use Rattle.serde_json.specs.Data.{Data}
 use Rattle.api_types.specs.Discovered.{are_discovered, declared_after}
+use Rattle.api_types.specs.Subresources.{is_apart_in}
 use Rattle.api_types.specs.TypesFile.{ServedShape}
-use Rattle.discovery.specs.Paths.{text_in}
+use Rattle.discovery.specs.declared.document.Document.{Document}
 use Rattle.fieldpath.specs.Paths.{PathTexts}
-use Rattle.history.specs.History.{Change, Key, Object, History, compacted_to, fresh, last_revision, current_objects, state_at}
+use Rattle.history.specs.History.{Key, Object, History, compacted_to, fresh, last_revision, current_objects, state_at}
 use Rattle.history.specs.View.{view}
 use Rattle.objects.specs.Owners.{Manager, manager_by, apply_operation, update_operation}
 use Rattle.objects.specs.State.{State}
@@ -20,23 +21,23 @@ use Rattle.ownership.specs.Carry.{carried_state}
 use Rattle.ownership.specs.Keeping.{OthersKeep}
 use Rattle.ownership.specs.Sides.{OtherSideStays, OwnSides}
 use Rattle.objects.specs.WellTyped.{Owns}
-use Rattle.api_request.specs.declared.method.Method.TheVariants.{Get, Patch, Put}
-use Rattle.api_request.specs.Calls.{Call, subresource_of}
+use Rattle.api_request.specs.declared.verb.Verb.TheVariants.{Get, Update, Apply}
+use Rattle.api_request.specs.Calls.{Call, of_document, kind_of, namespace_of, object_name, subresource_of, type_at, verb_of}
 use Rattle.api_validation.specs.Envelope.{name_in}
 use Rattle.api_request.specs.Json.{IsJsonBody}
-use Rattle.verbs.specs.Machine.{AreObjectTypes, IsMachine, IsNext, IsSomeTextAt, IsTextAt, decoded_state, state_under}
+use Rattle.verbs.specs.Machine.{AreNext, AreObjectTypes, IsMachine, IsSomeTextAt, IsTextAt, decoded_state, state_under}
 use Rattle.verbs.specs.Retyping.{is_changed, retyped, retyping}
 use Rattle.api_validation.specs.Size.{max_bytes}
 use Rattle.lists.specs.declared.refusal.Refusal.TheVariants.{Expired}
 use Rattle.watchline.specs.Lines.{expired_message, expired_value}
 use Rattle.watchline.specs.Watches.{from_history}
-use Rattle.verbs.specs.Step.{document_shown, list_refusal, plan_for, planned, planned_in, route_not_found, step, steps, dispatch_call, parameters_at}
+use Rattle.verbs.specs.Step.{document_plan, list_refusal, plan_for, planned, planned_in, route_not_found, step, steps, dispatch_call, parameters_at}
 use Rattle.verbs.specs.DryRuns.{is_dry_run}
 use Rattle.api_request.specs.Status.{CallRefusal, call_refusal_value}
 
--- what a call plans may come next, so the machine is one after each call whose body is a value that a JSON text spells
+-- what a call plans may come next, change by change, so the machine is one after each call whose body is a value that a JSON text spells
 abbrev pub PlansComeNext : Type 0
-PlansComeNext = (types : List ServedShape) (m : History) (call : Call) → IsMachine types m → IsJsonBody call.body → IfSome (planned types m call).change (IsNext types m)
+PlansComeNext = (types : List ServedShape) (m : History) (call : Call) → IsMachine types m → IsJsonBody call.body → AreNext types m (planned types m call).changes
 
 abbrev pub StepsKeepMachines : Type 0
 StepsKeepMachines = (types : List ServedShape) (m : History) (call : Call) → IsMachine types m → IsJsonBody call.body → IsMachine types (step types m call).1
@@ -59,7 +60,7 @@ PlansByViews = (types : List ServedShape) (m : History) (call : Call) → IsMach
 abbrev pub PlansAreShort : Type 0
 PlansAreShort =
     (types : List ServedShape) (m : History) (call : Call) → IsMachine types m → IsJsonBody call.body
-    → IfSome (planned types m call).change (λ c. IfSome c.body (λ text. length text ≤ max_bytes))
+    → AllByRecursion (λ c. IfSome c.body (λ text. length text ≤ max_bytes)) (planned types m call).changes
 
 -- the text is an object's, and the state is the one that is read of it under the schema of its time
 abbrev pub DecodesTo : List ServedShape → Key → ℕ → List ℕ → Type 0
@@ -86,8 +87,8 @@ StoredTextsDecode =
 abbrev pub AppliesKeepOthers : Type 0
 AppliesKeepOthers =
     (types : List ServedShape) (m : History) (call : Call) (values : Values) → IsMachine types m → IsJsonBody call.body
-    → call.target.method ≡ Patch → parameters_at (slice_get types call.target.kind) asked.Apply call.query ≡ Ok values → values.is_forced ≡ false
-    → (k : Key) → OthersKeep (state_under types (current_objects m) k) (state_under types (current_objects (step types m call).1) k) (manager_by values.manager apply_operation (subresource_of call.target.status))
+    → verb_of call.target ≡ Apply → parameters_at (type_at types call.target) asked.Apply call.query ≡ Ok values → values.is_forced ≡ false
+    → (k : Key) → OthersKeep (state_under types (current_objects m) k) (state_under types (current_objects (step types m call).1) k) (manager_by values.manager apply_operation (subresource_of call.target))
 
 -- each path that another manager owned, and that has the value that it had, is still owned by that manager
 abbrev pub OthersKeepUnchanged : State → State → Manager → Type 0
@@ -97,20 +98,20 @@ OthersKeepUnchanged old new m = (k : Manager) (p : PathTexts) → ¬ (k ≡ m) �
 abbrev pub UpdatesTakeChanges : Type 0
 UpdatesTakeChanges =
     (types : List ServedShape) (m : History) (call : Call) (values : Values) → IsMachine types m → IsJsonBody call.body
-    → call.target.method ≡ Put → parameters_at (slice_get types call.target.kind) asked.Put call.query ≡ Ok values
-    → (k : Key) → OthersKeepUnchanged (state_under types (current_objects m) k) (state_under types (current_objects (step types m call).1) k) (manager_by values.manager update_operation (subresource_of call.target.status))
+    → verb_of call.target ≡ Update → parameters_at (type_at types call.target) asked.Put call.query ≡ Ok values
+    → (k : Key) → OthersKeepUnchanged (state_under types (current_objects m) k) (state_under types (current_objects (step types m call).1) k) (manager_by values.manager update_operation (subresource_of call.target))
 
--- A PATCH and a PUT change only what their subresource writes: after the call, whatever it answers, each other path of each object has
--- the value and the owners that it had.
+-- An apply and an update change only what their subresource writes of objects of their type: after the call, whatever it answers, each other
+-- path of each object has the value and the owners that it had.
 abbrev pub WritesLeaveOtherSide : Type 0
 WritesLeaveOtherSide =
     (types : List ServedShape) (m : History) (call : Call) → IsMachine types m → IsJsonBody call.body
-    → (call.target.method ≡ Patch) ⊎ (call.target.method ≡ Put)
-    → (k : Key) → OtherSideStays (subresource_of call.target.status) (state_under types (current_objects m) k) (state_under types (current_objects (step types m call).1) k)
+    → (verb_of call.target ≡ Apply) ⊎ (verb_of call.target ≡ Update)
+    → (k : Key) → OtherSideStays (is_apart_in (type_at types call.target)) (subresource_of call.target) (state_under types (current_objects m) k) (state_under types (current_objects (step types m call).1) k)
 
 -- of each object that stands, each manager owns only what its subresource writes
 abbrev pub ManagersOwnTheirSides : Type 0
-ManagersOwnTheirSides = (types : List ServedShape) (m : History) (k : Key) → IsMachine types m → OwnSides (state_under types (current_objects m) k)
+ManagersOwnTheirSides = (types : List ServedShape) (m : History) (k : Key) → IsMachine types m → OwnSides (is_apart_in (slice_get types k.kind)) (state_under types (current_objects m) k)
 
 -- ---- what ends a watch
 
@@ -127,32 +128,38 @@ RefusalsChangeNothing =
 
 -- a dry run changes nothing, ..
 abbrev pub DryRunsChangeNothing : Type 0
-DryRunsChangeNothing = (types : List ServedShape) (m : History) (call : Call) → is_dry_run (slice_get types call.target.kind) call ≡ true → (step types m call).1 ≡ m
+DryRunsChangeNothing = (types : List ServedShape) (m : History) (call : Call) → is_dry_run (type_at types call.target) call ≡ true → (step types m call).1 ≡ m
 
 -- .. and any other call comes to what its checks plan
 abbrev pub OthersAreRun : Type 0
 OthersAreRun =
-    (types : List ServedShape) (m : History) (call : Call) → is_dry_run (slice_get types call.target.kind) call ≡ false → planned types m call ≡ plan_for (dispatch_call types (from_history m) call)
+    (types : List ServedShape) (m : History) (call : Call) → is_dry_run (type_at types call.target) call ≡ false → planned types m call ≡ plan_for (dispatch_call types (from_history m) call)
 
--- a GET changes nothing
+-- a GET changes nothing, of objects or of a document
 abbrev pub GetsChangeNothing : Type 0
-GetsChangeNothing = (types : List ServedShape) (m : History) (call : Call) → call.target.method ≡ Get → (step types m call).1 ≡ m
+GetsChangeNothing = (types : List ServedShape) (m : History) (call : Call) → verb_of call.target ≡ Get → (step types m call).1 ≡ m
 
 -- the name of the object that a call is of: that of its path, or else the one that its body gives
 abbrev pub name_called : Call → Option (List ℕ)
-name_called call = option_or call.target.name (option_and_then name_in call.body)
+name_called call = option_or (object_name call.target) (option_and_then name_in call.body)
 
 -- the key has the type, the namespace and the name that the call is of
 pub record IsCalled (call : Call) (k : Key) : Type 0 where
-  pub kind : k.kind ≡ call.target.kind
-  pub namespace : call.target.namespace ≡ Some k.namespace
+  pub kind : kind_of call.target ≡ Some k.kind
+  pub namespace : namespace_of call.target ≡ Some k.namespace
   pub name : name_called call ≡ Some k.name
 
--- a change is of the object that the call is of, and what stands under every other key stays
+-- there is at most one, and P says what it is
+abbrev pub AtMostOne : {X : Type 0} → (X → Type 0) → List X → Type 0
+AtMostOne P [] = Unit {0}
+AtMostOne P (x ∷ []) = P x
+AtMostOne P (x ∷ y ∷ xs) = ⊥
+
+-- a call makes at most one change, of the object that the call is of, and what stands under every other key stays
 abbrev pub CallsChangeOneObject : Type 0
 CallsChangeOneObject =
-    (types : List ServedShape) (m : History) (call : Call) (c : Change) → IsMachine types m → IsJsonBody call.body → (planned types m call).change ≡ Some c
-    → IsCalled call c.key × ((k : Key) → ¬ (k ≡ c.key) → fin.get (current_objects (step types m call).1) k ≡ fin.get (current_objects m) k)
+    (types : List ServedShape) (m : History) (call : Call) → IsMachine types m → IsJsonBody call.body
+    → AtMostOne (λ c. IsCalled call c.key × ((k : Key) → ¬ (k ≡ c.key) → fin.get (current_objects (step types m call).1) k ≡ fin.get (current_objects m) k)) (planned types m call).changes
 
 -- ---- what other types leave
 
@@ -183,9 +190,8 @@ SameTypesChangeNothing = (types : List ServedShape) (m : History) (file : Data) 
 -- a document is answered by the types alone, and changes nothing
 abbrev pub DocumentsOfTypes : Type 0
 DocumentsOfTypes =
-    (types : List ServedShape) (m : History) (call : Call) (t : ServedShape) → slice_get types call.target.kind ≡ Some t → call.target.namespace ≡ None → (path : List ℕ) → call.target.name ≡ Some path
-    → planned types m call ≡ plan_for (document_shown (text_in types path))
+    (types : List ServedShape) (m : History) (call : Call) (document : Document) → call.target ≡ of_document document → planned types m call ≡ plan_for (document_plan types document)
 
 -- where documents don't tell of the types, there is none: only calls on objects are served
 abbrev pub NoDocuments : Type 0
-NoDocuments = (types : List ServedShape) (path : List ℕ) → are_discovered types ≡ false → document_shown (text_in types path) ≡ route_not_found
+NoDocuments = (types : List ServedShape) (document : Document) → are_discovered types ≡ false → document_plan types document ≡ route_not_found

@@ -75,6 +75,6 @@ abbrev pub if_declared : List ServedShape → History → Result (List ServedSha
 if_declared types m (Ok next_types) = if list_all (λ t. is_object_shape t.shape) next_types then if_compatible types m next_types else Err not_types
 if_declared types m (Err e) = Err not_types
 
--- the types that are served where a types file is to take the place of these; they stay discovered if these are
+-- the types that are served where a types file is to take the place of these; they follow the profile of these
 unfoldable pub retyping : List ServedShape → History → Data → Result (List ServedShape) RetypeRefusal
 retyping types m file = if_declared types m (declared_after types file)

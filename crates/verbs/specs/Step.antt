@@ -1,6 +1,6 @@
 -- The step: what a call answers at a machine, and the machine after it, with the checks in their order
 -- (Kubernetes docs, "Server-Side Apply"; "Kubernetes API Concepts", "Resource versions"; "Custom Resources", "Status subresource").
-use Rattle.std.specs.Prelude.{ℕ, suc, Bool, ◌==◌, nat_le, nat_lt, List, [], ◌∷◌, ◌++◌, length, Option, Some, None, option_and_then, slice_get, if◌then◌else◌, codes, decimal}
+use Rattle.std.specs.Prelude.{ℕ, suc, Bool, ◌==◌, nat_le, nat_lt, List, [], ◌∷◌, ◌++◌, length, Option, Some, None, slice_get, if◌then◌else◌, codes, decimal}
 use Rattle.std.specs.declared.result.Result.{Result}
 use Rattle.std.specs.declared.result.Result.TheVariants.{Ok, Err}
 use Rattle.std.specs.FinMap as fin
@@ -8,7 +8,10 @@ use Rattle.serde_json.specs.Data.{Data, string, object, Items, no_items, item, n
 use Rattle.serde_json.specs.Written.{compact_text}
 use Rattle.fieldpath.specs.Elements.{shown}
 use Rattle.pathmap.specs.Contents.{Content}
+use Rattle.api_types.specs.Profiles.{is_discovered}
+use Rattle.api_types.specs.Subresources.{is_apart}
 use Rattle.api_types.specs.TypesFile.{ServedShape}
+use Rattle.discovery.specs.declared.document.Document.{Document}
 use Rattle.discovery.specs.Paths.{text_in}
 use Rattle.typed.specs.Reading.{content_of}
 use Rattle.objects.specs.declared.manager.Operation.{Operation}
@@ -34,16 +37,18 @@ use Rattle.watchline.specs.Lines.{expired_message}
 use Rattle.answers.specs.WatchFrom.{WatchFrom}
 use Rattle.watchline.specs.Opening.{started}
 use Rattle.watchline.specs.Watches.{HistoryWindow, from_history, from_view}
-use Rattle.api_request.specs.declared.method.Method.{Method}
-use Rattle.api_request.specs.declared.method.Method.TheVariants.{Get, Post, Put, Patch, Delete}
 use Rattle.api_request.specs.declared.reason.Reason.TheVariants.{BadRequest, NotFound, MethodNotAllowed, AlreadyExists, ServiceUnavailable, Timeout}
 use Rattle.api_request.specs.declared.reason.Reason.TheVariants as reason
+use Rattle.api_request.specs.declared.verb.Verb.{Verb}
+use Rattle.api_request.specs.declared.verb.Verb.TheVariants.{Get, Create, Update, Apply, Delete}
 use Rattle.api_request.specs.Reasons.{code_of}
 use Rattle.api_request.specs.Status.{CallRefusal, call_refusal_value}
 use Rattle.api_request.specs.Validated.{Validated, and_then, call_refusal, refused_for, require}
+use Rattle.verbs.specs.declared.planner.ObjectWrite.{ObjectWrite}
+use Rattle.verbs.specs.declared.planner.ObjectWrite.TheVariants as write
 use Rattle.verbs.specs.DryRuns.{is_dry_run, run_by}
 use Rattle.verbs.specs.Machine.{after, identity_of, no_state, state_of_existing, decoded_state}
-use Rattle.api_request.specs.Calls.{Scope, of_all, of_namespace, of_object, scope_of, Call, Answer, Plan, Target}
+use Rattle.api_request.specs.Calls.{Scope, of_all, of_namespace, of_object, Call, Answer, Plan, Target, of_objects, of_document, type_at}
 use Rattle.api_validation.specs.Envelope.{Expected, api_version_of, envelope_of, name_in}
 use Rattle.api_validation.specs.Parameters.{parameters_for, parameters_validated}
 use Rattle.api_validation.specs.Naming.{labels_and_annotations_validated_by, names_validated, required_name}
@@ -132,8 +137,8 @@ parameters_at None asked query = parameters_validated asked query
 parameters_at (Some t) asked query = parameters_for t asked query
 
 -- a write to the path of an object names that object
-abbrev pub at_path : ServedShape → Key → Method → Subresource → Expected
-at_path t k method subresource = record { served = t; namespace = k.namespace; name = Some k.name; method = method; subresource = subresource }
+abbrev pub at_path : ServedShape → Key → Verb → Subresource → Expected
+at_path t k verb subresource = record { served = t; namespace = k.namespace; name = Some k.name; verb = verb; subresource = subresource }
 
 -- ---- what is stored
 
@@ -147,7 +152,7 @@ plan_put_text body current k status =
     and_then (revisions_left current) (λ u.
     Ok (record {
       answer = record { status = status; body = compact_text body; watch = None };
-      change = Some (record { revision = suc current; key = k; body = Some (compact_text body) });
+      changes = record { revision = suc current; key = k; body = Some (compact_text body) } ∷ [];
     })))
 
 -- the plan that stores a state, with the next revision
@@ -156,7 +161,7 @@ plan_put t current k status s = plan_put_text (object_value_at t k (suc current)
 
 -- the object as it stands
 abbrev pub plan_without_change : Object → Plan
-plan_without_change o = record { answer = record { status = 200; body = o.body; watch = None }; change = None }
+plan_without_change o = record { answer = record { status = 200; body = o.body; watch = None }; changes = [] }
 
 -- the plan of a creation, or of a change of what stands, unless it changes nothing of what that says
 abbrev pub plan_put_unless_same : ServedShape → ℕ → Key → Option Object → State → Validated Plan
@@ -189,13 +194,13 @@ abbrev pub applied_over : ServedShape → ℕ → Key → Option Object → Inte
 applied_over t current k existing intent =
     and_then (require_object_of_status intent.subresource t k.name existing) (λ u.
     and_then (version_checked intent.version existing) (λ u.
-    and_then (ownership_validated (api_version_of t) (state_of_existing t existing) (own_part intent.subresource intent.content) (manager_for apply_operation intent) intent.is_forced) (λ s.
+    and_then (ownership_validated (api_version_of t) (state_of_existing t existing) (own_part (is_apart t) intent.subresource intent.content) (manager_for apply_operation intent) intent.is_forced) (λ s.
     plan_put_unless_same t current k existing s)))
 
 -- of a body of JSON (`dispatch_object`): envelope, shape, parameters (`intent_of`), names with labels and annotations, what `applied_over` checks
 abbrev pub apply_plan : Subresource → ServedShape → ℕ → Option Object → Key → List ℕ → Data → Validated Plan
 apply_plan subresource t current existing k query body =
-    and_then (intent_of (at_path t k Patch subresource) asked.Apply query body) (λ intent.
+    and_then (intent_of (at_path t k Apply subresource) asked.Apply query body) (λ intent.
     and_then (names_validated intent.subresource k.namespace k.name intent.rest) (λ u.
     applied_over t current k existing intent))
 
@@ -227,7 +232,7 @@ list_refusal (Expired n compacted) = call_refusal reason.Expired (expired_messag
 list_refusal (TooLarge n current) = call_refusal Timeout (too_large_message n current)
 
 abbrev pub list_answered : Result Answer Refusal → Validated Plan
-list_answered (Ok answer) = Ok (record { answer = answer; change = None })
+list_answered (Ok answer) = Ok (record { answer = answer; changes = [] })
 list_answered (Err refusal) = Err (list_refusal refusal)
 
 -- the text of a page
@@ -252,15 +257,15 @@ list_plan t s kind namespace query =
 
 -- ---- creation and update ("Server-Side Apply", "Comparison with Client-Side Apply": they own what they change)
 
-abbrev pub updated_by : Intent → State → State
-updated_by intent s = updated s (beside_others intent.subresource intent.content s.content) (manager_for update_operation intent)
+abbrev pub updated_by : ServedShape → Intent → State → State
+updated_by t intent s = updated s (beside_others (is_apart t) intent.subresource intent.content s.content) (manager_for update_operation intent)
 
 -- names with labels and annotations, that no object is there, number of labels and size, revisions left
 abbrev pub created_as : ServedShape → ℕ → Option Object → Key → Intent → Validated Plan
 created_as t current existing k intent =
     and_then (names_validated intent.subresource k.namespace k.name intent.rest) (λ u.
     and_then (require_absent t k.name existing) (λ u.
-    plan_put t current k 201 (updated_by intent no_state)))
+    plan_put t current k 201 (updated_by t intent no_state)))
 
 -- the object that a creation is of, and what it intends
 pub record Creation : Type 0 where
@@ -270,7 +275,7 @@ pub record Creation : Type 0 where
 -- of a body of JSON: envelope, shape, parameters, that there is a name: the body names the object
 abbrev pub creation_validated : ServedShape → ℕ → List ℕ → List ℕ → Data → Validated Creation
 creation_validated t kind namespace query body =
-    and_then (intent_of (record { served = t; namespace = namespace; name = None; method = Post; subresource = Main }) asked.Post query body) (λ intent.
+    and_then (intent_of (record { served = t; namespace = namespace; name = None; verb = Create; subresource = Main }) asked.Post query body) (λ intent.
     and_then (required_name (name_in body)) (λ name.
     Ok (record { key = record { kind = kind; namespace = namespace; name = name }; intent = intent })))
 
@@ -288,12 +293,12 @@ abbrev pub updated_over : ServedShape → ℕ → Key → Option Object → Inte
 updated_over t current k existing intent =
     and_then (require_found t k.name existing) (λ o.
     and_then (version_checked intent.version existing) (λ u.
-    plan_put_unless_same t current k existing (updated_by intent (decoded_state t.shape o.body))))
+    plan_put_unless_same t current k existing (updated_by t intent (decoded_state t.shape o.body))))
 
 -- of a body of JSON (`dispatch_object`): envelope, shape, parameters, labels and annotations, what `updated_over` checks
 abbrev pub update_plan : Subresource → ServedShape → ℕ → Option Object → Key → List ℕ → Data → Validated Plan
 update_plan subresource t current existing k query body =
-    and_then (intent_of (at_path t k Put subresource) asked.Put query body) (λ intent.
+    and_then (intent_of (at_path t k Update subresource) asked.Put query body) (λ intent.
     and_then (labels_and_annotations_validated_by intent.subresource intent.rest) (λ u.
     updated_over t current k existing intent))
 
@@ -303,7 +308,7 @@ update_plan subresource t current existing k query body =
 abbrev pub deleted : ServedShape → ℕ → Key → Object → Plan
 deleted t current k o = record {
   answer = record { status = 200; body = text_at t k (suc current) (decoded_state t.shape o.body); watch = None };
-  change = Some (record { revision = suc current; key = k; body = None });
+  changes = record { revision = suc current; key = k; body = None } ∷ [];
 }
 
 -- whether the object is there, version, revisions left; nothing is stored, so no size is validated
@@ -317,7 +322,7 @@ deleted_over t current k existing version =
 -- the body's options, parameters, what `deleted_over` checks
 abbrev pub delete_plan : ServedShape → ℕ → Option Object → Key → List ℕ → Option Data → Validated Plan
 delete_plan t current existing k query body =
-    and_then (options_validated t.is_discovered body) (λ version.
+    and_then (options_validated (is_discovered t.profile) body) (λ version.
     and_then (parameters_for t asked.Delete query) (λ values.
     deleted_over t current k existing version))
 
@@ -331,63 +336,70 @@ body_of (Some body) = Ok body
 abbrev pub method_not_allowed : Validated Plan
 method_not_allowed = refused_for MethodNotAllowed (codes "method not served here")
 
--- a write of an object, by its method; a status is deleted with its object alone
-abbrev pub dispatch_write : Method → Subresource → ServedShape → ℕ → Option Object → Key → List ℕ → Option Data → Validated Plan
-dispatch_write Put subresource t current existing k query body = and_then (body_of body) (update_plan subresource t current existing k query)
-dispatch_write Patch subresource t current existing k query body = and_then (body_of body) (apply_plan subresource t current existing k query)
-dispatch_write Delete Main t current existing k query body = delete_plan t current existing k query body
-dispatch_write how subresource t current existing k query body = method_not_allowed
+-- a write of an object; a status is deleted with its object alone
+abbrev pub dispatch_write : ObjectWrite → Subresource → ServedShape → ℕ → Option Object → Key → List ℕ → Option Data → Validated Plan
+dispatch_write write.Update subresource t current existing k query body = and_then (body_of body) (update_plan subresource t current existing k query)
+dispatch_write write.Apply subresource t current existing k query body = and_then (body_of body) (apply_plan subresource t current existing k query)
+dispatch_write write.Delete Main t current existing k query body = delete_plan t current existing k query body
+dispatch_write write.Delete Status t current existing k query body = method_not_allowed
 
--- on an object, or its status
-abbrev pub dispatch_object : Method → Subresource → ServedShape → ℕ → Option Object → Key → List ℕ → Option Data → Validated Plan
+-- on an object, or its status, by what is asked
+abbrev pub dispatch_object : Verb → Subresource → ServedShape → ℕ → Option Object → Key → List ℕ → Option Data → Validated Plan
 dispatch_object Get subresource t current existing k query body = get_plan t current existing k query
-dispatch_object how subresource t current existing k query body = dispatch_write how subresource t current existing k query body
+dispatch_object Create subresource t current existing k query body = method_not_allowed
+dispatch_object Update subresource t current existing k query body = dispatch_write write.Update subresource t current existing k query body
+dispatch_object Apply subresource t current existing k query body = dispatch_write write.Apply subresource t current existing k query body
+dispatch_object Delete subresource t current existing k query body = dispatch_write write.Delete subresource t current existing k query body
 
 abbrev pub route_not_found : Validated Plan
 route_not_found = refused_for NotFound (codes "no such path")
 
-abbrev pub key_at : Call → List ℕ → List ℕ → Key
-key_at call namespace name = record { kind = call.target.kind; namespace = namespace; name = name }
+abbrev pub key_at : ℕ → List ℕ → List ℕ → Key
+key_at kind namespace name = record { kind = kind; namespace = namespace; name = name }
 
--- by the objects that the call is of, and its method
-abbrev pub dispatch_scope : Scope → Method → ServedShape → HistoryWindow → Call → Validated Plan
-dispatch_scope of_all Get t s call = list_plan t s call.target.kind None call.query
-dispatch_scope (of_namespace namespace) Get t s call = list_plan t s call.target.kind (Some namespace) call.query
-dispatch_scope (of_namespace namespace) Post t s call = and_then (body_of call.body) (create_plan t s call.target.kind namespace call.query)
-dispatch_scope (of_object namespace name subresource) how t s call =
-    dispatch_object how subresource t s.current (object_at s (key_at call namespace name)) (key_at call namespace name) call.query call.body
-dispatch_scope scope how t s call = method_not_allowed
+-- by the objects that the call is of, those of the type with a number, and what is asked of them
+abbrev pub dispatch_scope : Scope → Verb → ServedShape → ℕ → HistoryWindow → Call → Validated Plan
+dispatch_scope of_all Get t kind s call = list_plan t s kind None call.query
+dispatch_scope (of_namespace namespace) Get t kind s call = list_plan t s kind (Some namespace) call.query
+dispatch_scope (of_namespace namespace) Create t kind s call = and_then (body_of call.body) (create_plan t s kind namespace call.query)
+dispatch_scope (of_object namespace name subresource) how t kind s call =
+    dispatch_object how subresource t s.current (object_at s (key_at kind namespace name)) (key_at kind namespace name) call.query call.body
+dispatch_scope scope how t kind s call = method_not_allowed
+
+-- where a type has the number. A target is `admit`'s, which gives one of `/status` for a type that has it alone; one that is made by hand of
+-- another type is served as the object
+abbrev pub dispatch_type : Option ServedShape → ℕ → Scope → Verb → HistoryWindow → Call → Validated Plan
+dispatch_type None kind scope verb s call = route_not_found
+dispatch_type (Some t) kind scope verb s call = dispatch_scope scope verb t kind s call
 
 -- a document's text, if there is one
 abbrev pub document_shown : Option (List ℕ) → Validated Plan
 document_shown None = route_not_found
-document_shown (Some text) = Ok (record { answer = record { status = 200; body = text; watch = None }; change = None })
+document_shown (Some text) = Ok (record { answer = record { status = 200; body = text; watch = None }; changes = [] })
 
--- the document of discovery whose path is the target's name, of the types as they are now
-abbrev pub document_plan : List ServedShape → Target → Validated Plan
-document_plan types target = document_shown (option_and_then (text_in types) target.name)
+-- a document of discovery, of the types as they are now
+abbrev pub document_plan : List ServedShape → Document → Validated Plan
+document_plan types document = document_shown (text_in types document)
 
--- where a type has the number, and the target names objects, or else a document. A target is `admit`'s, which gives one of `/status` for a
--- type that has it alone, and a document with GET alone; one that is made by hand of another type is served as the object
-abbrev pub dispatch_type : List ServedShape → Option ServedShape → Option Scope → HistoryWindow → Call → Validated Plan
-dispatch_type types None scope s call = route_not_found
-dispatch_type types (Some t) None s call = document_plan types call.target
-dispatch_type types (Some t) (Some scope) s call = dispatch_scope scope call.target.method t s call
+-- objects, or a document
+abbrev pub dispatch_target : List ServedShape → Target → HistoryWindow → Call → Validated Plan
+dispatch_target types (of_objects kind scope verb) s call = dispatch_type (slice_get types kind) kind scope verb s call
+dispatch_target types (of_document document) s call = document_plan types document
 
 abbrev pub dispatch_call : List ServedShape → HistoryWindow → Call → Validated Plan
-dispatch_call types s call = dispatch_type types (slice_get types call.target.kind) (scope_of call.target.namespace call.target.name call.target.status) s call
+dispatch_call types s call = dispatch_target types call.target s call
 
 -- a refusal is answered by its Status, and changes nothing
 abbrev pub refused : CallRefusal → Plan
-refused d = record { answer = record { status = code_of d.reason; body = compact_text (call_refusal_value d); watch = None }; change = None }
+refused d = record { answer = record { status = code_of d.reason; body = compact_text (call_refusal_value d); watch = None }; changes = [] }
 
 abbrev pub plan_for : Validated Plan → Plan
 plan_for (Ok p) = p
 plan_for (Err d) = refused d
 
--- the answer of a call, and the change that it makes, unless it is a dry run
+-- the answer of a call, and the changes that it makes, unless it is a dry run
 abbrev pub planned_over : List ServedShape → HistoryWindow → Call → Plan
-planned_over types s call = run_by (is_dry_run (slice_get types call.target.kind) call) (s.at s.current) (plan_for (dispatch_call types s call))
+planned_over types s call = run_by (is_dry_run (type_at types call.target) call) (s.at s.current) (plan_for (dispatch_call types s call))
 
 -- at a machine
 abbrev pub planned : List ServedShape → History → Call → Plan
@@ -399,7 +411,7 @@ planned_in types v call = planned_over types (from_view v) call
 
 -- the answer, and the machine after the call
 abbrev pub step : List ServedShape → History → Call → Answer × History
-step types m call = ((planned types m call).answer, after m (planned types m call).change)
+step types m call = ((planned types m call).answer, after m (planned types m call).changes)
 
 -- calls in turn: their answers, and the machine after them
 abbrev pub steps : List ServedShape → History → List Call → List Answer × History

@@ -1,8 +1,10 @@
 -- Lists of types as lists of numbers, by which a proof tells two of them apart: what a model's value wants.
-use Rattle.std.specs.Prelude.{◌≡◌, ◌==◌, refl, ℕ, Bool, false, List, [], ◌∷◌, if◌then◌else◌}
+use Rattle.std.specs.Prelude.{◌≡◌, ◌==◌, refl, ℕ, zero, suc, Bool, false, List, [], ◌∷◌, if◌then◌else◌}
 use Rattle.std.specs.Coded.{Coded, code_by, coded×, coded_bool, coded_list, coded_ℕ}
 use Rattle.schema.specs.Shape.{Shape, text, whole, truth, struct_of, map_of, list_of, Fields, no_fields, field, Kind, atomic, set, keyed}
 use Rattle.api_types.specs.TypesFile.{ServedShape}
+use Rattle.api_types.specs.declared.profile.Profile.{Profile}
+use Rattle.api_types.specs.declared.profile.Profile.TheVariants.{Plain, Discovered, Kubernetes}
 
 -- ---- a shape as what a machine with a stack of shapes and one of fields builds it by: after its parts
 
@@ -76,11 +78,33 @@ coded_shape =
 abbrev coded_text : Coded (List ℕ)
 coded_text = coded_list coded_ℕ
 
+-- ---- profiles
+
+abbrev profile_code : Profile → ℕ
+profile_code Plain = 0
+profile_code Discovered = 1
+profile_code (Kubernetes epoch) = suc (suc epoch)
+
+abbrev profile_from : ℕ → Profile
+profile_from zero = Plain
+profile_from (suc zero) = Discovered
+profile_from (suc (suc epoch)) = Kubernetes epoch
+
+profile_back : (p : Profile) → profile_from (profile_code p) ≡ p
+profile_back Plain = refl
+profile_back Discovered = refl
+profile_back (Kubernetes epoch) = refl
+
+coded_profile : Coded Profile
+coded_profile = code_by ℕ coded_ℕ profile_code profile_from profile_back
+
+-- ---- types
+
 pub coded_type : Coded ServedShape
 coded_type =
-    code_by (List ℕ × (List ℕ × (List ℕ × (List ℕ × (Bool × Shape))))) (coded× coded_text (coded× coded_text (coded× coded_text (coded× coded_text (coded× coded_bool coded_shape)))))
-    (λ t. (t.group, (t.version, (t.kind, (t.plural, (t.is_discovered, t.shape))))))
-    (λ p. record { group = p.0; version = p.1.0; kind = p.1.1.0; plural = p.1.1.1.0; shape = p.1.1.1.1.1; is_discovered = p.1.1.1.1.0 }) (λ _. refl)
+    code_by (List ℕ × (List ℕ × (List ℕ × (List ℕ × (Profile × Shape))))) (coded× coded_text (coded× coded_text (coded× coded_text (coded× coded_text (coded× coded_profile coded_shape)))))
+    (λ t. (t.group, (t.version, (t.kind, (t.plural, (t.profile, t.shape))))))
+    (λ p. record { group = p.0; version = p.1.0; kind = p.1.1.0; plural = p.1.1.1.0; shape = p.1.1.1.1.1; profile = p.1.1.1.1.0 }) (λ _. refl)
 
 abbrev pub coded_types : Coded (List ServedShape)
 coded_types = coded_list coded_type

@@ -5,6 +5,7 @@ use Rattle.serde_json.specs.View.{view}
 use Rattle.api_types.specs.Views.{FailsWith}
 use Rattle.api_types.specs.TypesFile.{ServedShape, declared_types}
 use Rattle.api_types.specs.declared.fault.TypesFault.{TypesFault}
+use Rattle.api_types.specs.declared.profile.Profile.TheVariants.{Plain}
 use Rattle.api_types.specs.declared.fault.TypesFault.TheVariants as types_fault
 use Rattle.history.specs.declared.object.Object.{Object as TheObject}
 use Rattle.history.specs.History.{Change, Object, Objects, History}
@@ -16,7 +17,7 @@ use Rattle.verbs.specs.declared.fault.RetypeFault.TheVariants as retype_fault
 use Rattle.verbs.specs.declared.api.Api.{Api}
 use Rattle.verbs.specs.declared.validating.Creation.{Creation as TheCreation}
 use Rattle.verbs.specs.declared.validating.Intent.{Intent as TheIntent}
-use Rattle.verbs.specs.Machine.{AreUnicode, ComesAfter, IsMachine}
+use Rattle.verbs.specs.Machine.{AreUnicode, ComeAfter, IsMachine}
 use Rattle.verbs.specs.Retyping.{RetypeRefusal, not_types, not_lawful, too_few_revisions}
 use Rattle.verbs.specs.Step.{Creation, Intent}
 
@@ -29,9 +30,9 @@ retype_refusal retype_fault.NotLawful = Some not_lawful
 retype_refusal retype_fault.TooFewRevisions = Some too_few_revisions
 retype_refusal (retype_fault.Failed fault) = None
 
--- the fault of a types file is that for which it declares no types, never that memory ran out
+-- the fault of a types file is that for which it declares no types, whatever their profile, never that memory ran out
 abbrev pub IsFileFault : Data → TypesFault → Type 0
-IsFileFault file why = (why ≢ types_fault.Memory) × FailsWith why (declared_types file)
+IsFileFault file why = (why ≢ types_fault.Memory) × FailsWith why (declared_types Plain file)
 
 -- which fault of the types file is reported, where it is told to be none
 abbrev pub reported_of_file : RetypeFault → Option TypesFault
@@ -63,9 +64,9 @@ types_of api = api.catalog
 abbrev pub store_of : Api → View
 store_of api = api.store
 
--- a change that may come next in it
-abbrev pub ComesNext : Api → Change → Type 0
-ComesNext api c = ComesAfter (store_of api) c
+-- changes that may come next in it
+abbrev pub ComeNext : Api → List Change → Type 0
+ComeNext api cs = ComeAfter (store_of api) cs
 
 -- the API serves these types, and of its store is seen what is seen of the machine, whose bodies are texts
 pub record ApiRepresents (api : Api) (types : List ServedShape) (m : History) : Type 0 where

@@ -12,7 +12,7 @@ ghost use Rattle.answers.specs.Views.{watch_from};
 
 use crate::fault::Fault;
 use answers::WatchFrom;
-use api_request::{Answer, Call, CallError, CallRefusal, NOT_JSON, OK, Plan, Reason};
+use api_request::{Answer, Call, CallError, CallRefusal, Changes, NOT_JSON, OK, Plan, Reason};
 use serde_json::Value;
 use std::alloc::{AllocError, Global};
 
@@ -50,7 +50,7 @@ pub fn refused(alloc: Global, call_refusal: CallRefusal) -> Result<Plan, AllocEr
             body,
             watch: None,
         },
-        change: None,
+        changes: Changes::None,
     })
 }
 

@@ -9,8 +9,8 @@ use crate::fault::{Fault, RetypeFault};
 use crate::plans::planned;
 use crate::retyping::{catalog_in, writes_under};
 use crate::watching::bookmarked;
-use crate::writing::{write_all, write_change};
-use api_request::{AdmitFault, Call, Plan, Routes, Target};
+use crate::writing::{write_all, write_change, write_each};
+use api_request::{AdmitFault, Call, Changes, Method, Plan, Routes, Target};
 use api_types::Types;
 use lists::LabelCache;
 use revstore::{CompactFault, Store};
@@ -61,11 +61,11 @@ impl Api {
     ghost use Rattle.api_types.specs.TypesFile.{ServedShape};
     ghost use Rattle.api_request.specs.Admit.{admitted};
     ghost use Rattle.history.specs.History.{History, compacted_to, fresh, last_revision};
-    ghost use Rattle.verbs.specs.Machine.{IsNext, after};
+    ghost use Rattle.verbs.specs.Machine.{AreNext, after};
     ghost use Rattle.serde_json.specs.View as value;
     ghost use Rattle.verbs.specs.Retyping.{retyped, retyping};
-    ghost use Rattle.api_request.specs.Views.{Admits, call_of, change_of, plan_of};
-    ghost use Rattle.verbs.specs.Views.{ComesNext, IsFileFault, ApiRepresents, retype_refusal, reported_of_file, types_of};
+    ghost use Rattle.api_request.specs.Views.{Admits, call_of, plan_of};
+    ghost use Rattle.verbs.specs.Views.{ComeNext, IsFileFault, ApiRepresents, retype_refusal, reported_of_file, types_of};
     ghost use Rattle.verbs.specs.Step.{planned};
     ghost use Rattle.verbs.specs.Watching.{bookmarked_in};
     ghost use Rattle.watchline.specs.Views.{bookmark_turn, turn_of};
@@ -114,23 +114,23 @@ impl Api {
     /// then the method, then the media type.
     pub fn admit(
         &self,
-        method: &str,
+        method: Option<Method>,
         path: &str,
         media: Option<&[u8]>,
     ) -> Result<Target, AdmitFault>
-        ensures { Admits result (admitted (types_of self.now) method.now path.now (option_map (λ b. b.now) media.entry)) }
+        ensures { Admits result (admitted (types_of self.now) method path.now (option_map (λ b. b.now) media.entry)) }
     {
         self.routes
             .admit(self.alloc, self.catalog.types(), method, path, media)
     }
 
-    /// The plan of a call: its answer, and the change that it makes, if any. It changes nothing.
+    /// The plan of a call: its answer, and the changes that it makes. It changes nothing.
     pub fn plan(&mut self, call: &Call) -> Result<Plan, Fault>
         ensures planned { (types : List ServedShape) (m : History) → ApiRepresents self.old types m
             → IfOk result (λ p. plan_of p ≡ planned types m (call_of call.now)) }
         ensures next { (types : List ServedShape) (m : History) → ApiRepresents self.old types m
-            → IfOk result (λ p. IfSome p.change (λ c. IsNext types m (change_of c))) }
-        ensures comes { IfOk result (λ p. IfSome p.change (λ c. ComesNext self.new (change_of c))) }
+            → IfOk result (λ p. AreNext types m (plan_of p).changes) }
+        ensures comes { IfOk result (λ p. ComeNext self.new (plan_of p).changes) }
         ensures readable { (types : List ServedShape) (m : History) → ApiRepresents self.old types m → result ≢ Err Fault.Unreadable }
         ensures same { (types : List ServedShape) (m : History) → ApiRepresents self.old types m → ApiRepresents self.new types m }
         ensures unchanged { self.new ≡ self.old }
@@ -138,18 +138,20 @@ impl Api {
         planned(self.alloc, &mut self.catalog, &mut self.store, call)
     }
 
-    /// Makes the change of a plan, if it has one: a plan of what stands now. On an error nothing is changed.
+    /// Makes the changes of a plan, one after the other: a plan of what stands now. On an error nothing is changed.
     pub fn commit(&mut self, plan: &Plan) -> Result<(), Fault>
-        requires { IfSome plan.now.change (λ c. ComesNext self.old (change_of c)) }
-        ensures ok { (types : List ServedShape) (m : History) → ApiRepresents self.old types m → IfSome plan.now.change (λ c. IsNext types m (change_of c))
-            → OnOk result (ApiRepresents self.new types (after m (plan_of plan.now).change)) }
+        requires { ComeNext self.old (plan_of plan.now).changes }
+        ensures ok { (types : List ServedShape) (m : History) → ApiRepresents self.old types m → AreNext types m (plan_of plan.now).changes
+            → OnOk result (ApiRepresents self.new types (after m (plan_of plan.now).changes)) }
         ensures err { (types : List ServedShape) (m : History) → ApiRepresents self.old types m → OnErr result (ApiRepresents self.new types m) }
         ensures readable { result ≢ Err Fault.Unreadable }
         ensures unchanged { OnErr result (self.new ≡ self.old) }
     {
-        match &plan.change {
-            Some(change) => write_change(&mut self.store, change, plan.answer.body.as_str()),
-            None => Ok(()),
+        let text = plan.answer.body.as_str();
+        match &plan.changes {
+            Changes::None => Ok(()),
+            Changes::Answered(change) => write_change(&mut self.store, change, text),
+            Changes::Each(writes) => write_each(&mut self.store, writes),
         }
     }
 

@@ -1,9 +1,10 @@
 //! What is cached of an object's text: the state that it says. It is kept in the slots of `slot`.
 
-ghost use Rattle.std.specs.Prelude.{◌≡◌, IfSome, string_bytes};
+ghost use Rattle.std.specs.Prelude.{◌≡◌, IfSome, List, string_bytes};
 ghost use Rattle.api_types.specs.TypesFile.{ServedShape};
+ghost use Rattle.api_request.specs.Calls.{Target};
 ghost use Rattle.objects.specs.Views.{state_of};
-ghost use Rattle.verbs.specs.CachedStateViews.{IsCoherent, IsDecodedFrom};
+ghost use Rattle.verbs.specs.CachedStateViews.{AreCoherentFor, IsCoherent, IsCoherentFor, IsDecodedFrom};
 
 use api_request::Plan;
 use ownership::Owned;
@@ -20,6 +21,28 @@ pub struct CachedState {
 pub struct WritePlan {
     pub plan: Plan,
     pub cached: Option<CachedState>,
+}
+
+/// What is cached of the object of a call while the call is planned: the state that stands, and the one that the plan's change
+/// stores.
+#[derive(Drop)]
+pub struct PlannedStates {
+    pub standing: Option<CachedState>,
+    pub stored: Option<CachedState>,
+}
+
+impl PlannedStates {
+    /// What is cached after the call: where it changes nothing, the state that stands.
+    pub(crate) fn after(self, plan: &Plan) -> Option<CachedState>
+        ensures { (types : List ServedShape) (target : Target) → AreCoherentFor types target self → IfSome result (IsCoherentFor types target) }
+    {
+        let PlannedStates { standing, stored } = self;
+        if plan.changes.is_none() {
+            standing
+        } else {
+            stored
+        }
+    }
 }
 
 /// The state under the text that says it; nothing if there is no room in memory for the text's copy.

@@ -33,27 +33,27 @@ impl Model for Catalog {
     ghost invariant = { λ c. AreCoherent (types_view c.types) c.slots.items };
 }
 
-/// The slot of the object that a call changes, or else of the one that it names: a POST names none, and its change does.
-fn slot_in(target: &Target, plan: &Plan) -> Option<usize> {
-    let Some(change) = &plan.change else {
-        return slot_at(target);
+/// The slot of the only object that a call changes, or else of the one that it names: a POST names none, and its change does.
+fn slot_in(kind: u32, scope: &Scope, plan: &Plan) -> Option<usize> {
+    let Some(key) = plan.changes.only_key() else {
+        return slot_at(kind, scope);
     };
-    let key = &change.key;
     Some(slot_of(key.kind, key.namespace.as_str(), key.name.as_str()))
 }
 
 /// The slot of the object that a call is of, if it names one.
-fn slot_at(target: &Target) -> Option<usize> {
-    match target.scope() {
-        Some(Scope::Object(namespace, name, _)) => Some(slot_of(target.kind, namespace, name)),
-        _ => None,
+fn slot_at(kind: u32, scope: &Scope) -> Option<usize> {
+    match scope {
+        Scope::Object(namespace, name, _) => Some(slot_of(kind, namespace.as_str(), name.as_str())),
+        Scope::All | Scope::Namespace(_) => None,
     }
 }
 
 impl Catalog {
     ghost use Rattle.std.specs.Prelude.{◌≡◌, IfOk, IfSome};
     ghost use Rattle.api_types.specs.Served.{types_view};
-    ghost use Rattle.verbs.specs.CachedStateViews.{IsCoherentAt};
+    ghost use Rattle.api_request.specs.Views.{target_of};
+    ghost use Rattle.verbs.specs.CachedStateViews.{IsCoherentAt, IsCoherentFor};
 
     /// These types, of whose objects nothing is cached.
     pub(crate) fn new(alloc: Global, types: Types) -> Result<Catalog, AllocError>
@@ -73,25 +73,46 @@ impl Catalog {
     /// What the slot of the object that a call names holds, if it is of the same type: it is returned, and no longer kept
     /// here. It may be of another object of the type; whoever takes it compares the text.
     pub(crate) fn take(&mut self, target: &Target) -> Option<CachedState>
-        ensures coherent { IfSome result (IsCoherentAt self.old target.now.kind) }
+        ensures coherent { IfSome result (IsCoherentFor self.old (target_of target.now)) }
         ensures same { self.new ≡ self.old }
     {
-        let at = slot_at(target)?;
-        taken_from(&mut self.slots, at, target.kind)
+        let Target::Objects(kind, scope, _) = target else {
+            return None;
+        };
+        let at = slot_at(*kind, scope)?;
+        self.take_from(at, *kind)
+    }
+
+    /// What a slot holds of an object of the type.
+    fn take_from(&mut self, at: usize, kind: u32) -> Option<CachedState>
+        ensures coherent { IfSome result (IsCoherentAt self.old kind) }
+        ensures same { self.new ≡ self.old }
+    {
+        taken_from(&mut self.slots, at, kind)
+    }
+
+    /// Keeps what is cached of an object of the type, if anything is, in a slot.
+    fn keep_in(&mut self, at: usize, kind: u32, cached: Option<CachedState>)
+        requires { IfSome cached (IsCoherentAt self.old kind) }
+        ensures { self.new ≡ self.old }
+    {
+        if cached.is_some() {
+            put_in(&mut self.slots, at, Slot { kind, cached });
+        }
     }
 
     /// Keeps what is to be cached after a call with this plan. Where that is nothing, the slot stays as `take` left
     /// it.
     pub(crate) fn keep(&mut self, target: &Target, plan: &Plan, cached: Option<CachedState>)
-        requires { IfSome cached (IsCoherentAt self.old target.now.kind) }
+        requires { IfSome cached (IsCoherentFor self.old (target_of target.now)) }
         ensures { self.new ≡ self.old }
     {
-        let Some(at) = slot_in(target, plan) else {
+        let Target::Objects(kind, scope, _) = target else {
             return;
         };
-        if cached.is_some() {
-            let kind = target.kind;
-            put_in(&mut self.slots, at, Slot { kind, cached });
-        }
+        let Some(at) = slot_in(*kind, scope, plan) else {
+            return;
+        };
+        self.keep_in(at, *kind, cached);
     }
 }

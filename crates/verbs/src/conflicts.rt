@@ -9,6 +9,7 @@ ghost use Rattle.objects.specs.Owners.{apply_operation};
 ghost use Rattle.ownership.specs.Results.{conflict_of};
 ghost use Rattle.ownership.specs.Sides.{own_part};
 ghost use Rattle.objects.specs.Views.{state_of};
+ghost use Rattle.api_types.specs.Subresources.{is_apart};
 ghost use Rattle.api_validation.specs.Envelope.{api_version_of};
 ghost use Rattle.verbs.specs.PlannerViews.{type_of};
 ghost use Rattle.api_request.specs.Views.{Returns, call_refusal_of};
@@ -79,7 +80,7 @@ impl Planner<'_> {
     /// Applies what is intended over what stands, unless other managers own what it changes.
     pub(crate) fn applied(self, existing: &Owned, intent: Intent<'_>) -> Result<Owned, CallError>
         ensures validated { let i = intent_seen intent.entry in
-            Returns state_of result (ownership_validated (api_version_of (type_of self.entry)) (state_of existing.now) (own_part i.subresource i.content) (manager_for apply_operation i) i.is_forced) }
+            Returns state_of result (ownership_validated (api_version_of (type_of self.entry)) (state_of existing.now) (own_part (is_apart (type_of self.entry)) i.subresource i.content) (manager_for apply_operation i) i.is_forced) }
         ensures well_typed { (s : Shape) → IsContent s intent.entry.content → IsWellTypedState s (state_of existing.now) → IfOk result (λ o. IsWellTypedState s (state_of o)) }
     {
         let Intent {
@@ -93,6 +94,7 @@ impl Planner<'_> {
             self.alloc,
             existing,
             manager.as_str(),
+            self.served.is_apart(),
             subresource,
             content,
             is_forced,

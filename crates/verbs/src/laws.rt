@@ -37,8 +37,8 @@ pub fn updates_take_changes()
     ensures { UpdatesTakeChanges }
 {}
 
-/// An object's status is written by the subresource `status` alone, and that writes nothing else: a PATCH and a PUT leave the values
-/// and the owners of what they don't write, and each manager owns only what its subresource writes.
+/// Where a type's status is apart, it is written by the subresource `status` alone, and that writes nothing else: a PATCH and a PUT leave
+/// the values and the owners of what they don't write, and each manager owns only what its subresource writes.
 pub fn status_is_apart()
     ensures leaves { WritesLeaveOtherSide }
     ensures sides { ManagersOwnTheirSides }

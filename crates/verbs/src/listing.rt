@@ -17,7 +17,7 @@ ghost use Rattle.verbs.specs.Step.{list_answered, list_refusal, list_plan, plan_
 use crate::answering::{ok_answer, plan_for};
 use crate::fault::Fault;
 use crate::planner::Planner;
-use api_request::{Answer, CallError, Plan, Reason};
+use api_request::{Answer, CallError, Changes, Plan, Reason};
 use api_validation::{api_version_of, read_parameters};
 use lists::{Collection, ListFault, Refusal, list};
 use params::{Asked, Params};
@@ -86,7 +86,7 @@ impl Planner<'_> {
         namespace: Option<&str>,
     ) -> Result<Plan, Fault>
         ensures planned { let c = call_of_entry self.entry in
-            IfOk result (λ p. plan_of p ≡ plan_for (list_plan (type_of self.entry) (from_view store.old) c.target.kind (option_map (λ s. s.now) namespace.entry) c.query)) }
+            IfOk result (λ p. plan_of p ≡ plan_for (list_plan (type_of self.entry) (from_view store.old) self.entry.kind (option_map (λ s. s.now) namespace.entry) c.query)) }
         ensures readable { result ≢ Err Fault.Unreadable }
         ensures same { store.new ≡ store.old }
     {
@@ -96,7 +96,7 @@ impl Planner<'_> {
         };
         let api_version = api_version_of(self.alloc, self.served)?;
         let of = Collection {
-            kind: self.call.target.kind,
+            kind: self.kind,
             namespace,
             api_version: api_version.as_str(),
             item_kind: self.served.kind.as_str(),
@@ -104,7 +104,7 @@ impl Planner<'_> {
         match answered(self.alloc, store, of, params) {
             Ok(answer) => Ok(Plan {
                 answer,
-                change: None,
+                changes: Changes::None,
             }),
             Err(fault) => list_failed(self.alloc, fault),
         }

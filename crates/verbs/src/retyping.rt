@@ -226,8 +226,8 @@ fn types_in(alloc: Global, file: &Value, others: &Types) -> Result<Types, Retype
     ensures reported { IfErr result (λ e. IfSome (reported_of_file e) (IsFileFault (value.view file.now))) }
     ensures readable { result ≢ Err (RetypeFault.Failed Fault.Unreadable) }
 {
-    match Types::read(alloc, file) {
-        Ok(types) => Ok(types.with_marks_of(others)),
+    match Types::read(alloc, others.profile(), file) {
+        Ok(types) => Ok(types),
         Err(fault) => Err(file_fault(fault)),
     }
 }

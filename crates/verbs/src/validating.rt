@@ -37,7 +37,7 @@ use crate::existing::Existing;
 use crate::listing::too_large;
 use crate::planner::Planner;
 use crate::preconditions::check_version;
-use api_request::{Answer, CREATED, CallError, Change, Method, OK, Plan};
+use api_request::{Answer, CREATED, CallError, Change, Changes, OK, Plan, Verb};
 use api_types::Served;
 use api_validation::{
     Expected, name_in, read_config, read_parameters, require_name, validate,
@@ -75,16 +75,16 @@ pub struct Creation<'a> {
 fn at_path<'a>(
     served: &'a Served,
     key: &'a Key,
-    method: Method,
+    verb: Verb,
     subresource: Subresource,
 ) -> Expected<'a>
-    ensures { expected_of result ≡ at_path (types.served served.now) (key_of key.now) method subresource }
+    ensures { expected_of result ≡ at_path (types.served served.now) (key_of key.now) verb subresource }
 {
     Expected {
         served,
         namespace: key.namespace.as_str(),
         name: Some(key.name.as_str()),
-        method,
+        verb,
         subresource,
     }
 }
@@ -141,7 +141,7 @@ impl<'a> Planner<'a> {
                 body: text,
                 watch: None,
             },
-            change: Some(change),
+            changes: Changes::Answered(change),
         })
     }
 
@@ -226,7 +226,7 @@ impl<'a> Planner<'a> {
         ensures coherent { IfOk result (CachesCoherently (type_of self.entry)) }
     {
         let body = body_of(self.alloc, self.call)?;
-        let expected = at_path(self.served, &key, Method::Patch, subresource);
+        let expected = at_path(self.served, &key, Verb::Apply, subresource);
         let intent = self.intent_of(expected, Asked::Apply, body)?;
         validate_names(self.alloc, intent.subresource, &key, intent.body)?;
         self.applied_over(key, existing, intent)
@@ -247,14 +247,14 @@ impl<'a> Planner<'a> {
         ensures coherent { IfOk result (CachesCoherently (type_of self.entry)) }
     {
         let body = body_of(self.alloc, self.call)?;
-        let expected = at_path(self.served, &key, Method::Put, subresource);
+        let expected = at_path(self.served, &key, Verb::Update, subresource);
         let intent = self.intent_of(expected, Asked::Put, body)?;
         validate_labels_and_annotations_by(self.alloc, intent.subresource, intent.body)?;
         let Some(object) = &existing.object else {
             return Err(self.not_found(&key));
         };
         check_version(self.alloc, intent.version, Some(object))?;
-        let owned = updated_by(self.alloc, intent, &existing.state)?;
+        let owned = updated_by(self.alloc, self.served, intent, &existing.state)?;
         self.plan_put_unless_same(key, existing, owned)
     }
 
@@ -263,7 +263,7 @@ impl<'a> Planner<'a> {
     pub(crate) fn validate_creation(self, namespace: &str) -> Result<Creation<'a>, CallError>
         requires planner { IsSoundPlanner self }
         ensures validated { let c = call_of_entry self.entry in
-            Returns creation_seen result (and_then (body_of c.body) (creation_validated (type_of self.entry) c.target.kind namespace.now c.query)) }
+            Returns creation_seen result (and_then (body_of c.body) (creation_validated (type_of self.entry) self.entry.kind namespace.now c.query)) }
         ensures content { IfOk result (λ c. IsContent (type_of self.entry).shape c.intent.content) }
     {
         let body = body_of(self.alloc, self.call)?;
@@ -271,7 +271,7 @@ impl<'a> Planner<'a> {
             served: self.served,
             namespace,
             name: None,
-            method: Method::Post,
+            verb: Verb::Create,
             subresource: Subresource::Main,
         };
         let intent = self.intent_of(expected, Asked::Post, body)?;
@@ -297,7 +297,7 @@ impl<'a> Planner<'a> {
         if existing.is_some() {
             return Err(self.already_exists(&key));
         }
-        let owned = updated_by(self.alloc, intent, &Owned::empty(self.alloc))?;
+        let owned = updated_by(self.alloc, self.served, intent, &Owned::empty(self.alloc))?;
         self.plan_put_cached(key, CREATED, owned)
     }
 
@@ -320,7 +320,7 @@ impl<'a> Planner<'a> {
         Ok(WritePlan {
             plan: Plan {
                 answer: ok_answer(body, None),
-                change: Some(change),
+                changes: Changes::Answered(change),
             },
             cached: None,
         })
@@ -367,7 +367,7 @@ impl<'a> Planner<'a> {
         self.check_version_reached(params.version)?;
         Ok(Plan {
             answer: ok_answer(object.body, None),
-            change: None,
+            changes: Changes::None,
         })
     }
 }
@@ -381,15 +381,20 @@ fn unchanged(existing: &Object) -> Result<WritePlan, AllocError>
     Ok(WritePlan {
         plan: Plan {
             answer: ok_answer(body, None),
-            change: None,
+            changes: Changes::None,
         },
         cached: None,
     })
 }
 
 /// What stands after the write, over what stood: its manager owns what it changed.
-fn updated_by(alloc: Global, intent: Intent<'_>, existing: &Owned) -> Result<Owned, AllocError>
-    ensures state { IfOk result (λ o. state_of o ≡ updated_by (intent_seen intent.entry) (state_of existing.now)) }
+fn updated_by(
+    alloc: Global,
+    served: &Served,
+    intent: Intent<'_>,
+    existing: &Owned,
+) -> Result<Owned, AllocError>
+    ensures state { IfOk result (λ o. state_of o ≡ updated_by (types.served served.now) (intent_seen intent.entry) (state_of existing.now)) }
     ensures well_typed { (s : Shape) → IsContent s intent.entry.content → IsWellTypedState s (state_of existing.now) → IfOk result (λ o. IsWellTypedState s (state_of o)) }
 {
     let Intent {
@@ -398,5 +403,13 @@ fn updated_by(alloc: Global, intent: Intent<'_>, existing: &Owned) -> Result<Own
         subresource,
         ..
     } = intent;
-    update(alloc, existing, manager.as_str(), subresource, content)
+    let is_apart = served.is_apart();
+    update(
+        alloc,
+        existing,
+        manager.as_str(),
+        is_apart,
+        subresource,
+        content,
+    )
 }

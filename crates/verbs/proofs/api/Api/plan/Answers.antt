@@ -1,13 +1,13 @@
-use Rattle.std.proofs.Common.{◌∙◌, subst, sym}
+use Rattle.std.proofs.Common.{List, ◌∙◌, subst, sym}
 use Rattle.std.proofs.lemmas.Result.{IfOk-weaker}
-use Rattle.std.specs.Prelude.{IfSome}
+use Rattle.history.specs.History.{Change}
 use Rattle.history.specs.View.{View}
 use Rattle.api_request.specs.Calls.{Plan}
-use Rattle.verbs.specs.Machine.{ComesAfter}
-use Rattle.api_request.specs.Views.{call_of, change_of}
+use Rattle.api_request.specs.Views.{call_of, plan_of}
+use Rattle.verbs.specs.Machine.{ComeAfter}
 use Rattle.verbs.specs.Views.{types_of}
 use Rattle.verbs.proofs.Fits.{planned_comes}
-use Rattle.verbs.proofs.Planning.{planned_is, planned_next, seen_change, represents_texts}
+use Rattle.verbs.proofs.Planning.{planned_is, planned_next, represents_texts}
 use Rattle.verbs.proofs.api.Api.plan.Goals as goal
 
 pub returns-clause-planned : goal.returns-clause-planned
@@ -22,8 +22,8 @@ pub returns-clause-comes : goal.returns-clause-comes
 returns-clause-comes c =
     let v = c.args.self.now.store in
     IfOk-weaker c.planned.result _ _
-    (λ p is. subst (λ (w : View). IfSome p.change (λ x. ComesAfter w (change_of x))) (sym c.planned.ensures.same)
-    (seen_change (ComesAfter v) p.change (subst (λ (q : Plan). IfSome q.change (ComesAfter v)) (sym is) (planned_comes (types_of c.args.self.now) v (call_of c.args.call.now)))))
+    (λ p is. subst (λ (w : View). ComeAfter w (plan_of p).changes) (sym c.planned.ensures.same)
+    (subst (λ (q : Plan). ComeAfter v q.changes) (sym is) (planned_comes (types_of c.args.self.now) v (call_of c.args.call.now))))
     c.planned.ensures.planned
 
 pub returns-clause-readable : goal.returns-clause-readable

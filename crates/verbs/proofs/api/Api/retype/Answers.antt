@@ -1,17 +1,22 @@
-use Rattle.std.proofs.Common.{rules, ◌≡◌, ◌∙◌, List, Ok, Err, None, ap, map, refl, subst, sym}
+use Rattle.std.proofs.Common.{rules, ◌≡◌, ◌≤◌, ◌+◌, ◌∙◌, List, Ok, Err, None, ap, length, map, refl, subst, sym}
 use Rattle.std.specs.Prelude.{IfSome}
 use Rattle.std.proofs.lemmas.Result.{IfErr-weaker}
 use Rattle.serde_json.specs.View as value
 use Rattle.api_types.specs.Discovered.{declared_after}
 use Rattle.api_types.specs.Served.{types_view}
 use Rattle.api_types.specs.TypesFile.{ServedShape}
+use Rattle.history.specs.History.{last_revision}
 use Rattle.history.specs.Read.{write_of}
 use Rattle.history.specs.View.{View}
-use Rattle.history.specs.Writes.{written_all_in}
+use Rattle.history.specs.Whole.{AreThere}
+use Rattle.history.specs.Writes.{changes_by, written_all_in}
+use Rattle.history.specs.declared.write.Write.{Write}
 use Rattle.verbs.specs.declared.api.Api.{Api}
+use Rattle.verbs.specs.GatheredViews.{AreWritable}
 use Rattle.verbs.specs.Machine.{AreTexts, IsMachine}
 use Rattle.verbs.specs.Retyping.{if_compatible, retyping_writes}
 use Rattle.verbs.specs.Views.{IsFileFault, objects_in, retype_refusal, reported_of_file}
+use Rattle.verbs.proofs.Gathering.{writes_there}
 use Rattle.verbs.proofs.Machines.{current_objects_seen}
 use Rattle.verbs.proofs.Served.{refused_file, retypes}
 use Rattle.verbs.proofs.api.Api.retype.Goals as goal
@@ -65,3 +70,18 @@ returns-clause-ok c = λ types m represents.
     let declared = subst (λ (l : List ServedShape). declared_after l (value.view c.args.file.now) ≡ Ok next_types) old c.in_ok-catalog.ensures.types in
     let done = retypes api new_api types next_types m (value.view c.args.file.now) ws represents declared c.in_ok-catalog.ensures.shaped lawful are refl store in
     (next_types, done.0, done.1)
+
+pub write_all-requires-clause-fits : goal.write_all-requires-clause-fits
+write_all-requires-clause-fits c =
+    let v = c.args.self.now.store in
+    let writable : AreWritable v.current (map write_of c.in_ok-writes.writes.items) = c.in_ok-writes.ensures.writable in
+    subst (λ (w : View). w.current + length (map write_of c.deref.result.now) ≤ last_revision) (sym c.writes_under.ensures.same)
+    (subst (λ (l : List Write). v.current + length (map write_of l) ≤ last_revision) (sym c.deref.ensures.value) writable.fits)
+
+pub write_all-requires-clause-there : goal.write_all-requires-clause-there
+write_all-requires-clause-there c =
+    let v = c.args.self.now.store in
+    let ws = map write_of c.in_ok-writes.writes.items in
+    let writable : AreWritable v.current ws = c.in_ok-writes.ensures.writable in
+    subst (λ (w : View). AreThere (objects_in w) (changes_by w.current (map write_of c.deref.result.now))) (sym c.writes_under.ensures.same)
+    (subst (λ (l : List Write). AreThere (objects_in v) (changes_by v.current (map write_of l))) (sym c.deref.ensures.value) (writes_there (objects_in v) v.current ws writable))

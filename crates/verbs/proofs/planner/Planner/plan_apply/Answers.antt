@@ -1,7 +1,7 @@
 use Rattle.std.proofs.Common.{◌≡◌, Ok, subst}
 use Rattle.params.specs.declared.params.Asked.TheVariants as asked
 use Rattle.serde_json.specs.View.{view}
-use Rattle.api_request.specs.declared.method.Method.TheVariants.{Patch}
+use Rattle.api_request.specs.declared.verb.Verb.TheVariants.{Apply}
 use Rattle.history.specs.Read.{key_of}
 use Rattle.verbs.specs.PlannerViews.{call_of_entry, type_of}
 use Rattle.verbs.specs.Views.{intent_seen}
@@ -15,5 +15,5 @@ applied_over-requires-clause-content c =
     let q = (call_of_entry c.args.self).query in
     let d = view c.in_ok-body.body.now in
     let i = intent_seen c.in_ok-intent.intent in
-    intended_content (at_path t (key_of c.args.key) Patch c.args.subresource) asked.Apply q d i c.requires.planner.1 c.in_ok-body.ensures.json
+    intended_content (at_path t (key_of c.args.key) Apply c.args.subresource) asked.Apply q d i c.requires.planner.1 c.in_ok-body.ensures.json
     (subst (λ of. intent_of of asked.Apply q d ≡ Ok i) c.at_path-expected.ensures c.in_ok-intent.ensures)

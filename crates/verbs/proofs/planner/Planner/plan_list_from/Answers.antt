@@ -1,7 +1,7 @@
 use Rattle.std.proofs.Common.{◌≡◌, ℕ, List, IfOk, option_map, subst}
 use Rattle.params.specs.declared.params.Asked.TheVariants as asked
 use Rattle.api_validation.specs.Parameters.{parameters_for}
-use Rattle.verbs.specs.PlannerViews.{call_of_entry, type_of}
+use Rattle.verbs.specs.PlannerViews.{type_of}
 use Rattle.api_request.specs.Views.{plan_of}
 use Rattle.verbs.specs.Step.{collection_of, list_answered, list_plan, plan_for, shown_by}
 use Rattle.watchline.specs.Watches.{from_view}
@@ -11,7 +11,7 @@ use Rattle.verbs.proofs.planner.Planner.plan_list_from.Goals as goal
 pub returns-in-Err-clause-planned : goal.returns-in-Err-clause-planned
 returns-in-Err-clause-planned c =
     let t = type_of c.args.self in
-    let kind = (call_of_entry c.args.self).target.kind in
+    let kind = c.args.self.kind in
     let s = from_view c.args.store.now in
     let namespace = option_map (λ s. s.now) c.args.namespace in
     let query = c.deref.result.now in

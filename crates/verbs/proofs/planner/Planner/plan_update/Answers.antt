@@ -1,7 +1,7 @@
 use Rattle.std.proofs.Common.{◌≡◌, Ok, subst}
 use Rattle.params.specs.declared.params.Asked.TheVariants as asked
 use Rattle.serde_json.specs.View.{view}
-use Rattle.api_request.specs.declared.method.Method.TheVariants.{Put}
+use Rattle.api_request.specs.declared.verb.Verb.TheVariants.{Update}
 use Rattle.history.specs.Read.{key_of}
 use Rattle.verbs.specs.PlannerViews.{call_of_entry, type_of}
 use Rattle.verbs.specs.Views.{intent_seen}
@@ -16,5 +16,5 @@ plan_put_unless_same-requires-clause-well_typed c =
     let d = view c.in_ok-body.body.now in
     let i = intent_seen c.in_ok-intent.intent in
     c.in_ok-owned.ensures.well_typed t.shape
-    (intended_content (at_path t (key_of c.args.key) Put c.args.subresource) asked.Put q d i c.requires.planner.1 c.in_ok-body.ensures.json
+    (intended_content (at_path t (key_of c.args.key) Update c.args.subresource) asked.Put q d i c.requires.planner.1 c.in_ok-body.ensures.json
     (subst (λ of. intent_of of asked.Put q d ≡ Ok i) c.at_path-expected.ensures c.in_ok-intent.ensures)) c.requires.existing.1
