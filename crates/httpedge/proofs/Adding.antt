@@ -6,7 +6,7 @@ use Rattle.std.proofs.lemmas.List.Elements.{filter-append}
 use Rattle.serde_json.specs.Data.{Data}
 use Rattle.api_types.specs.Retyping.{types_may_become}
 use Rattle.api_types.specs.TypesFile.{ServedShape}
-use Rattle.history.specs.History.{Change, History, IsRising, Key, up_to}
+use Rattle.history.specs.History.{Change, History, IsRising, Key, up_to, written}
 use Rattle.history.specs.Whole.{IsGapless}
 use Rattle.history.specs.Writes.{changes_by, written_all}
 use Rattle.history.proofs.Revisions.{up_to-below}
@@ -46,19 +46,44 @@ still s t types same = record {
   compacted = subst (λ (m : History). s.machine.compacted ≤ m.compacted) (sym same) (not_less s.machine.compacted);
 }
 
-after_grown : (s : State) (all : Connections) (o : Option Change) → HasGrown s (with_connections (with_machine s (after s.machine o)) all)
-after_grown s all None = still s _ refl refl
-after_grown s all (Some c) = record {
-  types = refl;
-  changes = (record { revision = suc s.machine.current; key = c.key; body = c.body } ∷ [], refl, (refl, refl));
-  current = omega arith;
-  compacted = not_less s.machine.compacted;
-}
+grows_on : (s mid t : State) → HasGrown s mid → HasGrown mid t → HasGrown s t
+grows_on s mid t first second =
+    let one = first.changes in
+    let two = second.changes in
+    let low = first.current in
+    let next = second.current in
+    let kept = first.compacted in
+    let more = second.compacted in
+    record {
+      types = second.types ∙ first.types;
+      changes = (
+        one.0 ++ two.0,
+        two.1 ∙ ap (λ (cs : List Change). cs ++ two.0) one.1 ∙ append_assoc s.machine.changes one.0 two.0,
+        gapless_then s.machine.current mid.machine.current t.machine.current one.0 two.0 one.2 two.2,
+      );
+      current = omega (arith, low, next);
+      compacted = omega (arith, kept, more);
+    }
+
+after_grown : (s : State) (all : Connections) (cs : List Change) → HasGrown s (with_connections (with_machine s (after s.machine cs)) all)
+after_grown s all [] = still s _ refl refl
+after_grown s all (c ∷ cs) = grows_on s mid _ one (after_grown mid all cs)
+  where
+    mid : State
+    mid = with_machine s (written s.machine c.key c.body)
+
+    one : HasGrown s mid
+    one = record {
+      types = refl;
+      changes = (record { revision = suc s.machine.current; key = c.key; body = c.body } ∷ [], refl, (refl, refl));
+      current = omega arith;
+      compacted = not_less s.machine.compacted;
+    }
 
 made_grown : (s : State) (all : Connections) (decision : CallDecision) → HasGrown s (with_connections (with_machine s (machine_after s.types s.machine decision)) all)
 made_grown s all undecided = still s _ refl refl
 made_grown s all (refused d) = still s _ refl refl
-made_grown s all (accepted call) = after_grown s all (planned s.types s.machine call).change
+made_grown s all (accepted call) = after_grown s all (planned s.types s.machine call).changes
 
 received_grown : (s : State) (id : ℕ) (c : Connection) (st : Phase) (bytes : List ℕ) (decision : CallDecision) → HasGrown s (received_by s id c st bytes decision)
 received_grown s id c (waiting prefix) bytes decision = made_grown s _ decision
@@ -135,25 +160,6 @@ pub follows_grow : (s t : State) (h : Action) → Follows s h t → HasGrown s t
 follows_grow s t (happens e) (decision, asks, is) = subst (HasGrown s) (sym is) (unless_grown s (applied_event s e decision) (refusal s e) (carried_grown s e decision))
 follows_grow s t (runs_out_of_memory e which) (free, memory, is) = subst (HasGrown s) (sym is) (out_of_memory_grown s e which)
 follows_grow s t (takes id n) is = subst (HasGrown s) (sym is) (by_grown s (fin.get s.connections id) _ (λ c. still s _ refl refl))
-
-grows_on : (s mid t : State) → HasGrown s mid → HasGrown mid t → HasGrown s t
-grows_on s mid t first second =
-    let one = first.changes in
-    let two = second.changes in
-    let low = first.current in
-    let next = second.current in
-    let kept = first.compacted in
-    let more = second.compacted in
-    record {
-      types = second.types ∙ first.types;
-      changes = (
-        one.0 ++ two.0,
-        two.1 ∙ ap (λ (cs : List Change). cs ++ two.0) one.1 ∙ append_assoc s.machine.changes one.0 two.0,
-        gapless_then s.machine.current mid.machine.current t.machine.current one.0 two.0 one.2 two.2,
-      );
-      current = omega (arith, low, next);
-      compacted = omega (arith, kept, more);
-    }
 
 pub runs_grow : (s t : State) (hs : List Action) → Runs s hs t → HasGrown s t
 runs_grow s t [] is = subst (HasGrown s) (sym is) (still s s refl refl)

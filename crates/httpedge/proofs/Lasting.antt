@@ -8,7 +8,7 @@ use Rattle.serde_json.specs.Read.{read}
 use Rattle.fieldpath.proofs.Encodable.{encodable-read}
 use Rattle.api_types.specs.TypesFile.{ServedShape}
 use Rattle.history.specs.History.{History}
-use Rattle.api_request.specs.Admit.{admitted}
+use Rattle.api_request.specs.Admit.{admitted, method_named}
 use Rattle.api_request.specs.Calls.{Call}
 use Rattle.api_request.specs.Json.{IsJsonBody}
 use Rattle.verbs.specs.Machine.{IsMachine}
@@ -68,7 +68,7 @@ declared_json (Some n) rest value e = sized_json n rest value e
 
 call_json : (types : List ServedShape) (request : Request) (rest : List ℕ) (call : Call) → call_in types request rest ≡ accepted call → IsJsonBody call.body
 call_json types request rest call e =
-    let target = went_on (decided_by (admitted types request.method (path_of request.request_target) (checked_media request))) _ call e in
+    let target = went_on (decided_by (admitted types (method_named request.method) (path_of request.request_target) (checked_media request))) _ call e in
     let body = went_on (body_in request rest) _ call target.2 in
     let made : Call = record { target = target.0; query = query_of request.request_target; body = body.0 } in
     let declared = went_on (decided_by (declared_length request)) _ body.0 body.1 in

@@ -1,10 +1,9 @@
 -- What stays where other types are served: the connections, and what their bytes ask.
-use Rattle.std.proofs.Common.{◌≡◌, ℕ, suc, Bool, true, false, true≢false, cond, List, [], ◌∷◌, ◌++◌, map, Option, Some, None, Result, Ok, Err, is_some, refl, sym, ap, ap₂, subst, ◌∙◌, ◌+◌, length}
+use Rattle.std.proofs.Common.{◌≡◌, ℕ, suc, Bool, true, false, true≢false, cond, List, [], ◌∷◌, ◌++◌, map, Option, Some, None, Result, Ok, Err, refl, sym, ap, ap₂, subst, ◌∙◌, ◌+◌, length}
 use Rattle.std.specs.Prelude.{codes, nat_le, option_and_then, option_map, slice_get, unwrap_or}
 use Rattle.std.specs.Char.{is_ascii}
 use Rattle.std.specs.FinMap as fin
 use Rattle.std.specs.List.{list_all}
-use Rattle.std.specs.Bool.{beq}
 use Rattle.std.specs.Str.{bytes_eq}
 use Rattle.std.proofs.lemmas.Bool.{and_parts}
 use Rattle.std.proofs.lemmas.Option.{slice_get-map}
@@ -14,22 +13,24 @@ use Rattle.matchit.specs.Seek.{first}
 use Rattle.serde_json.specs.Data.{Data}
 use Rattle.schema.specs.Becoming.{may_become}
 use Rattle.api_types.specs.Retyping.{type_may_become, types_may_become}
-use Rattle.schema.specs.ObjectShape.{field_of}
 use Rattle.schema.specs.ObjectTest.{is_object_shape}
 use Rattle.api_types.specs.Refusals as schemas
 use Rattle.schema.specs.Shape.{text}
 use Rattle.api_types.specs.Discovered.{declared_after}
+use Rattle.api_types.specs.Profiles.{is_same}
+use Rattle.api_types.specs.declared.profile.Profile.{Profile}
 use Rattle.api_types.specs.TypesFile.{ServedShape, is_named, number_from, type_number}
-use Rattle.api_types.proofs.Keeping.{fields_stay}
-use Rattle.api_types.proofs.Marks.{same_mark}
-use Rattle.discovery.specs.Paths.{document_in}
+use Rattle.api_types.proofs.Marks.{same_profile}
+use Rattle.api_types.specs.Subresources as subresources
+use Rattle.api_types.proofs.StatusStays.{status_stays}
 use Rattle.history.specs.History.{History, last_revision, current_objects}
-use Rattle.api_request.specs.Admit.{Parts, RequestInfo, admitted, has_status, kind_in, kind_with, parts_by, path_admitted, place_by, place_in, place_of, routes}
+use Rattle.api_request.specs.Admit.{Parts, RequestInfo, admitted, document_admitted, has_status, kind_in, kind_with, method_named, parts_by, path_admitted, place_by, place_in, place_of, routes}
 use Rattle.api_request.specs.Calls.{Denied, Target}
 use Rattle.verbs.specs.Retyping.{RetypeRefusal, changed_objects, if_declared, if_compatible, if_revisions_left, not_lawful, not_types, retyping, too_few_revisions}
-use Rattle.httpedge.proofs.OtherDocuments.{documents_last, same_document}
+use Rattle.httpedge.proofs.OtherDocuments.{documents_last}
 use Rattle.httpedge.specs.SharedViews.{SharedRepresents}
 use Rattle.httpedge.specs.declared.shared.Shared.{Shared}
+use Rattle.api_request.specs.declared.method.Method.{Method}
 use Rattle.api_request.specs.declared.resource.Resource.{Resource}
 use Rattle.api_request.specs.declared.resource.Resource.TheVariants.{AllNamespaces, Collection, Object, Status}
 use Rattle.requests.specs.declared.asking.Pending as pendings
@@ -56,25 +57,25 @@ same_connections s (Err why) = refl
 abbrev Lasting : Type 0
 Lasting = ServedShape × Bool
 
-abbrev lasting_by : List ℕ → List ℕ → List ℕ → List ℕ → Bool → Bool → Lasting
-lasting_by group version kind plural is_discovered status = (record { group = group; version = version; kind = kind; plural = plural; shape = text; is_discovered = is_discovered }, status)
+abbrev lasting_by : List ℕ → List ℕ → List ℕ → List ℕ → Profile → Bool → Lasting
+lasting_by group version kind plural profile status = (record { group = group; version = version; kind = kind; plural = plural; shape = text; profile = profile }, status)
 
 same_bytes : (a b : List ℕ) → bytes_eq a b ≡ true → b ≡ a
 same_bytes a b is = sym ((bytes_eq-Decides a b).0 is)
 
 one_lasts : (t u : ServedShape) → type_may_become t u ≡ true → lasting u ≡ lasting t
 one_lasts t u is =
-    let group = and_parts (bytes_eq t.group u.group) _ (and_parts (beq t.is_discovered u.is_discovered) _ is).1 in
+    let group = and_parts (bytes_eq t.group u.group) _ (and_parts (is_same t.profile u.profile) _ is).1 in
     let version = and_parts (bytes_eq t.version u.version) _ group.1 in
     let kind = and_parts (bytes_eq t.kind u.kind) _ version.1 in
     let plural = and_parts (bytes_eq t.plural u.plural) (may_become t.shape u.shape) kind.1 in
-    let status = is_some (field_of (codes "status") u.shape) in
-    ap (λ g. lasting_by g u.version u.kind u.plural u.is_discovered status) (same_bytes t.group u.group group.0)
-    ∙ ap (λ v. lasting_by t.group v u.kind u.plural u.is_discovered status) (same_bytes t.version u.version version.0)
-    ∙ ap (λ k. lasting_by t.group t.version k u.plural u.is_discovered status) (same_bytes t.kind u.kind kind.0)
-    ∙ ap (λ p. lasting_by t.group t.version t.kind p u.is_discovered status) (same_bytes t.plural u.plural plural.0)
-    ∙ ap (λ b. lasting_by t.group t.version t.kind t.plural b status) (same_mark t u is)
-    ∙ ap (lasting_by t.group t.version t.kind t.plural t.is_discovered) (fields_stay t.shape u.shape plural.1 (codes "status"))
+    let status = subresources.has_status u in
+    ap (λ g. lasting_by g u.version u.kind u.plural u.profile status) (same_bytes t.group u.group group.0)
+    ∙ ap (λ v. lasting_by t.group v u.kind u.plural u.profile status) (same_bytes t.version u.version version.0)
+    ∙ ap (λ k. lasting_by t.group t.version k u.plural u.profile status) (same_bytes t.kind u.kind kind.0)
+    ∙ ap (λ p. lasting_by t.group t.version t.kind p u.profile status) (same_bytes t.plural u.plural plural.0)
+    ∙ ap (λ p. lasting_by t.group t.version t.kind t.plural p status) (same_profile t u is)
+    ∙ ap (lasting_by t.group t.version t.kind t.plural t.profile) (status_stays t u is)
 
 never : {P : Type 0} → false ≡ true → P
 never is = absurd (true≢false (sym is))
@@ -102,7 +103,7 @@ number_lasts n group version plural (t ∷ ts) = ap (cond (is_named group versio
 status_lasts : (ts : List ServedShape) (n : ℕ) → unwrap_or (option_map status_in (slice_get (map lasting ts) n)) false ≡ has_status ts n
 status_lasts ts n = ap (λ o. unwrap_or (option_map status_in o) false) (slice_get-map lasting ts n) ∙ go (slice_get ts n)
   where
-    go : (o : Option ServedShape) → unwrap_or (option_map status_in (option_map lasting o)) false ≡ is_some (option_and_then (λ t. field_of (codes "status") t.shape) o)
+    go : (o : Option ServedShape) → unwrap_or (option_map status_in (option_map lasting o)) false ≡ unwrap_or (option_map subresources.has_status o) false
     go None = refl
     go (Some t) = refl
 
@@ -146,18 +147,18 @@ same_path types others lasts path =
     ap (λ o. cond (list_all is_ascii path) o None)
     (then_same (place_by others path) (place_by types path) (first routes path) (λ r. same_place types others lasts r.value (parts_by path r)))
 
-pub same_admitted : (types others : List ServedShape) → LastsIn types others → (method path : List ℕ) (media : Option (List ℕ)) → admitted others method path media ≡ admitted types method path media
+pub same_admitted : (types others : List ServedShape) → LastsIn types others → (method : Option Method) (path : List ℕ) (media : Option (List ℕ)) → admitted others method path media ≡ admitted types method path media
 same_admitted types others lasts method path media =
     ap (λ o. path_admitted others o method path media) (same_path types others lasts path) ∙ by_place (place_of types path)
   where
     by_place : (o : Option RequestInfo) → path_admitted others o method path media ≡ path_admitted types o method path media
-    by_place None = same_document (document_in others path) (document_in types path) method path (documents_last types others lasts path)
+    by_place None = ap (λ o. document_admitted o method) (documents_last types others lasts path)
     by_place (Some place) = refl
 
 same_call : (types others : List ServedShape) → LastsIn types others → (request : Request) (rest : List ℕ) → call_in others request rest ≡ call_in types request rest
 same_call types others lasts request rest =
     ap (λ (a : Result Target Denied). and_then (decided_by a) (λ target. call_with request target (body_in request rest)))
-    (same_admitted types others lasts request.method (path_of request.request_target) (checked_media request))
+    (same_admitted types others lasts (method_named request.method) (path_of request.request_target) (checked_media request))
 
 same_asked : (types others : List ServedShape) → LastsIn types others → (head : HeadDecision) → asked_by others head ≡ asked_by types head
 same_asked types others lasts undecided = refl

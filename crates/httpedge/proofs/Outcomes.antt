@@ -102,7 +102,7 @@ by_asked s mid t id c prefix first second (accepted call) asks is later =
     let plan = planned s.types s.machine call in
     let written = answer_bytes plan.answer plan.answer.watch in
     let st = answer_phase s.last_tick plan.answer.watch in
-    let r = with_machine s (after s.machine plan.change) in
+    let r = with_machine s (after s.machine plan.changes) in
     then_answered s t id c prefix first second written st (accepted call) r (answer_idle s.last_tick plan.answer.watch) (λ u. absurd cc) asks refl
     (found r id (with_written c written st) second t (subst (λ (m : State). ThenComes m id second t) is later))
 

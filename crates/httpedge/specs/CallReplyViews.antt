@@ -13,4 +13,4 @@ use Rattle.requests.specs.Replies.{answer_bytes}
 -- these bytes, this status and this watch answer the call, and the API then stands for the machine after it
 abbrev pub Serves : List ServedShape → History → Call → List ℕ → ℕ → Option WatchFrom → Api → Type 0
 Serves types m call bytes status watch api =
-    (bytes ≡ answer_bytes (planned types m call).answer watch) × (status ≡ (planned types m call).answer.status) × (watch ≡ (planned types m call).answer.watch) × ApiRepresents api types (after m (planned types m call).change)
+    (bytes ≡ answer_bytes (planned types m call).answer watch) × (status ≡ (planned types m call).answer.status) × (watch ≡ (planned types m call).answer.watch) × ApiRepresents api types (after m (planned types m call).changes)

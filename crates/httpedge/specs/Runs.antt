@@ -1,8 +1,8 @@
 -- Events in turn: what the bytes of each ask, and the state after all of them.
-use Rattle.std.specs.Prelude.{◌≡◌, ◌≢◌, ◌≤◌, ℕ, Bool, true, false, List, [], ◌∷◌, ◌++◌, map, Option, Some, None, codes, is_some, option_and_then, ⊤}
+use Rattle.std.specs.Prelude.{◌≡◌, ◌≢◌, ◌≤◌, ℕ, Bool, true, false, List, [], ◌∷◌, ◌++◌, map, Option, Some, None, option_and_then, ⊤}
 use Rattle.std.specs.FinMap as fin
-use Rattle.schema.specs.ObjectShape.{field_of}
 use Rattle.schema.specs.Shape.{text}
+use Rattle.api_types.specs.Subresources.{has_status}
 use Rattle.api_types.specs.TypesFile.{ServedShape}
 use Rattle.history.specs.History.{Change}
 use Rattle.history.specs.Whole.{IsGapless}
@@ -108,9 +108,9 @@ peer_goes _ = false
 
 -- ---- what it adds
 
--- what stays of a type that is served, whatever becomes of its lists and maps: its names, whether it is discovered, and whether it has a status
+-- what stays of a type that is served, whatever becomes of its lists and maps: its names, its profile, and whether it has a status
 abbrev pub lasting : ServedShape → ServedShape × Bool
-lasting t = (record t { shape = text }, is_some (field_of (codes "status") t.shape))
+lasting t = (record t { shape = text }, has_status t)
 
 -- t is a later state of the hub: its types have stayed but for lists and maps that have become atomic, changes were added, each of the next
 -- revision, none is lost, and neither number went down

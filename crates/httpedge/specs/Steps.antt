@@ -110,11 +110,11 @@ connection_after types m last_tick c bytes undecided = with_phase c (waiting byt
 connection_after types m last_tick c bytes (refused d) = with_written c (refusal_reply d) ended
 connection_after types m last_tick c bytes (accepted call) = answered last_tick c (planned types m call).answer
 
--- a call makes its change
+-- a call makes its changes
 abbrev pub machine_after : List ServedShape → History → CallDecision → History
 machine_after types m undecided = m
 machine_after types m (refused d) = m
-machine_after types m (accepted call) = after m (planned types m call).change
+machine_after types m (accepted call) = after m (planned types m call).changes
 
 abbrev pub received : State → ℕ → Connection → List ℕ → CallDecision → State
 received s id c bytes decision =

@@ -25,7 +25,7 @@ pub(crate) struct CallReply {
     pub watch: Option<WatchFrom>,
 }
 
-/// Makes a call: what is written of its answer is there before its change is made.
+/// Makes a call: what is written of its answer is there before its changes are made.
 pub(crate) fn serve(alloc: Global, api: &mut Api, call: &Call) -> Result<CallReply, Fault>
     ensures ok { (types : List ServedShape) (m : History) → ApiRepresents api.old types m
         → IfOk result (λ v. Serves types m (call_of call.now) v.bytes.items v.status (option_map watch_from v.watch) api.new) }

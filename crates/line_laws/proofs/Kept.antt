@@ -90,7 +90,7 @@ module _ (wanted : Wanted) (of : Collection) (is : IsWanted wanted of) where
   page_fits values s kept =
       let after = option_map (key_after of.kind) values.token in
       let each = each_entry (λ k o. k.kind ≡ of.kind → IsKept of k o) (fin.entries s) (fin.entries_sorted s) (λ k o there same. kept k o same (fin.get-entries s k ∙ there)) in
-      let whole = subst (AllByRecursion Fits) (sym (entries-selected (selection_of of.kind of.namespace values.selector) s)) (all_fit (λ e. selects values.selector (attributes_of e.1.body)) (fin.entries s) each) in
+      let whole = subst (AllByRecursion Fits) (sym (entries-selected (selection_of of.kind of.namespace values.selector) s)) (all_fit (λ e. selects values.selector (attributes_of e.0 e.1.body)) (fin.entries s) each) in
       all_limited Fits (page_limit values.limit) (left_after after (whole_list of values.selector s)) (all_left Fits after (whole_list of values.selector s) whole)
 
   -- ---- what is read

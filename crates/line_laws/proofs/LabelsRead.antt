@@ -1,5 +1,5 @@
 -- The labels that are read of an object's text.
-use Rattle.std.proofs.Common.{◌≡◌, ℕ, Bool, true, false, cond, List, [], ◌∷◌, Option, Some, None, refl, sym, ap, subst, ◌∙◌, true≢false}
+use Rattle.std.proofs.Common.{◌≡◌, ℕ, Bool, true, false, cond, List, [], ◌∷◌, Option, Some, refl, sym, ap, subst, ◌∙◌, true≢false}
 use Rattle.std.specs.Prelude.{codes, option_and_then, unwrap_or, decimal}
 use Rattle.std.proofs.lemmas.Bool.{and_parts}
 use Rattle.std.specs.FinMap as fin
@@ -17,11 +17,12 @@ use Rattle.pathmap.specs.Insides.{inside}
 use Rattle.pathmap.proofs.Insides.{get-inside}
 use Rattle.schema.specs.Lawful.{are_well_formed, is_lawful, is_well_formed, names_of}
 use Rattle.schema.specs.Shape.{Shape, text, whole, truth, struct_of, map_of, list_of, Fields, no_fields, field, shape_at}
-use Rattle.schema.specs.ObjectShape.{metadata}
+use Rattle.schema.specs.ObjectShape.{IsMetadata}
+use Rattle.schema.proofs.Metadata.{well_formed_at}
 use Rattle.json_values.specs.Texts.{texts_of}
 use Rattle.lists.specs.Labels.{label_members, labels_of}
 use Rattle.typed.specs.WellTyped.{AreWellTyped, IsWellTyped}
-use Rattle.typed.specs.Printing.{object_or_none, print, print_fields, with_member}
+use Rattle.typed.specs.Printing.{object_or_none, print, print_fields}
 use Rattle.typed.proofs.Fitting.{content_well_typed}
 use Rattle.objects.specs.State.{State}
 use Rattle.objects.specs.ObjectText.{Identity, entry_items, members_printed, metadata_members, metadata_of, object_value, put_entries}
@@ -57,15 +58,6 @@ metadata_in_object api_version kind meta base =
     ∙ get_member-put_other (codes "metadata") (codes "kind") (string kind) with_metadata (apart (codes "metadata") (codes "kind") refl)
     ∙ get_member-put (codes "metadata") (object meta) base
 
--- labels and annotations alone
-abbrev two : Option Data → Option Data → Members
-two a l = with_member (codes "labels") l (with_member (codes "annotations") a no_members)
-
-labels_of_two : (a l : Option Data) → get_member (codes "labels") (two a l) ≡ l
-labels_of_two None None = refl
-labels_of_two (Some a) None = refl
-labels_of_two a (Some l) = get_member-put (codes "labels") l (with_member (codes "annotations") a no_members)
-
 -- ---- the content of a field
 
 well_typed_field : (f : List ℕ) (t : Shape) (all : Fields) (c : Content) → shape_at f all ≡ Some t → AreWellTyped all c → IsWellTyped t (inside (name_text f) c)
@@ -78,13 +70,29 @@ well_typed_field f t (field g s more) c is well_typed = by (bytes_eq g f) refl i
         subst (λ n. IsWellTyped t (inside (name_text n) c)) g_is (subst (λ u. IsWellTyped u (inside (name_text g) c)) (same_some s t e) well_typed.0)
     by false apart e later = later e
 
-labels_well_typed : (c : Content) → IsWellTyped metadata c → IsWellTyped (map_of text false) (inside (name_text (codes "labels")) c)
-labels_well_typed c (top, (notes, (labels, end))) = labels
-
 each_well_typed : (c : Content) → IsWellTyped (map_of text false) c → (e : List ℕ) → IsWellTyped text (inside e c)
 each_well_typed c (top, each) = each
 
-module _ (all : Fields) (of : Identity) (v : ℕ) (state : State) (key : List ℕ) (lawful : is_lawful (struct_of all false) ≡ true) (has_metadata : shape_at (codes "metadata") all ≡ Some metadata)
+-- the labels that are printed of a type's `metadata`
+abbrev AreLabels : Shape → Content → Type 0
+AreLabels m c =
+    (get_member (codes "labels") (members_printed (print m c)) ≡ print (map_of text false) (inside (name_text (codes "labels")) c))
+    × IsWellTyped (map_of text false) (inside (name_text (codes "labels")) c)
+
+metadata_labels : (m : Shape) (c : Content) → IsMetadata m → is_well_formed m ≡ true → IsWellTyped m c → AreLabels m c
+metadata_labels text c is formed well_typed = absurd (true≢false (sym is.granular))
+metadata_labels whole c is formed well_typed = absurd (true≢false (sym is.granular))
+metadata_labels truth c is formed well_typed = absurd (true≢false (sym is.granular))
+metadata_labels (struct_of all true) c is formed well_typed = absurd (true≢false (sym is.granular))
+metadata_labels (struct_of all false) c is formed well_typed =
+    let up : ascend (names_of all) ≡ true = (and_parts (ascend (names_of all)) (are_well_formed all) formed).0 in (
+      ap (get_member (codes "labels")) (members_back (print_fields all c no_members)) ∙ found_field (codes "labels") (map_of text false) all c no_members up is.labels refl,
+      well_typed_field (codes "labels") (map_of text false) all c is.labels well_typed.1,
+    )
+metadata_labels (map_of s b) c is formed well_typed = absurd (true≢false (sym is.granular))
+metadata_labels (list_of s kind) c is formed well_typed = absurd (true≢false (sym is.granular))
+
+module _ (all : Fields) (of : Identity) (v : ℕ) (state : State) (key : List ℕ) (lawful : is_lawful (struct_of all false) ≡ true) (m : Shape) (has_metadata : shape_at (codes "metadata") all ≡ Some m) (is_metadata : IsMetadata m)
     (well_typed : IsWellTyped (struct_of all false) state.content) where
   abbrev in_metadata : Content
   in_metadata = inside (name_text (codes "metadata")) state.content
@@ -95,22 +103,24 @@ module _ (all : Fields) (of : Identity) (v : ℕ) (state : State) (key : List �
   formed : is_well_formed (struct_of all false) ≡ true
   formed = (and_parts (is_well_formed (struct_of all false)) _ lawful).0
 
-  up : ascend (names_of all) ≡ true
-  up = (and_parts (ascend (names_of all)) (are_well_formed all) formed).0
+  fields : (ascend (names_of all) ≡ true) × (are_well_formed all ≡ true)
+  fields = and_parts (ascend (names_of all)) (are_well_formed all) formed
 
   abbrev fields_printed : Members
   fields_printed = print_fields all state.content no_members
 
-  abbrev notes : Option Data
-  notes = print (map_of text false) (inside (name_text (codes "annotations")) in_metadata)
-
   abbrev labels : Option Data
   labels = print (map_of text false) in_labels
 
-  labels_are : metadata_members (print (struct_of all false) state.content) ≡ two notes labels
+  printed_labels : AreLabels m in_metadata
+  printed_labels =
+      metadata_labels m in_metadata is_metadata (well_formed_at (codes "metadata") m all fields.1 has_metadata) (well_typed_field (codes "metadata") m all state.content has_metadata well_typed.1)
+
+  labels_are : get_member (codes "labels") (metadata_members (print (struct_of all false) state.content)) ≡ labels
   labels_are =
-      ap (λ ms. members_printed (get_member (codes "metadata") ms)) (members_back fields_printed)
-      ∙ ap members_printed (found_field (codes "metadata") metadata all state.content no_members up has_metadata refl) ∙ members_back (two notes labels)
+      ap (λ ms. get_member (codes "labels") (members_printed (get_member (codes "metadata") ms))) (members_back fields_printed)
+      ∙ ap (λ o. get_member (codes "labels") (members_printed o)) (found_field (codes "metadata") m all state.content no_members fields.0 has_metadata refl)
+      ∙ printed_labels.0
 
   in_value : label_members (object_value (struct_of all false) of v state) ≡ option_and_then as_object labels
   unfolding object_value
@@ -118,10 +128,10 @@ module _ (all : Fields) (of : Identity) (v : ℕ) (state : State) (key : List �
       let ms = metadata_members (print (struct_of all false) state.content) in
       let meta = metadata_of (struct_of all false) of v state.owners ms in
       ap (λ o. option_and_then as_object (option_and_then (get (codes "labels")) o)) (metadata_in_object of.api_version of.kind meta (members_printed (print (struct_of all false) state.content)))
-      ∙ ap (option_and_then as_object) (labels_in_metadata (struct_of all false) of v state ms ∙ ap (get_member (codes "labels")) labels_are ∙ labels_of_two notes labels)
+      ∙ ap (option_and_then as_object) (labels_in_metadata (struct_of all false) of v state ms ∙ labels_are)
 
   in_place : (e : List ℕ) → IsWellTyped text (inside e in_labels)
-  in_place = each_well_typed in_labels (labels_well_typed in_metadata (well_typed_field (codes "metadata") metadata all state.content has_metadata well_typed.1))
+  in_place = each_well_typed in_labels printed_labels.1
 
   if_any : (ms : Members) → unwrap_or (option_and_then texts_of (option_and_then as_object (object_or_none ms))) [] ≡ unwrap_or (texts_of ms) []
   if_any no_members = refl
@@ -142,7 +152,7 @@ labels_are_of_contents whole of v state t key shaped said = absurd (true≢false
 labels_are_of_contents truth of v state t key shaped said = absurd (true≢false (sym shaped.0))
 labels_are_of_contents (struct_of all true) of v state t key shaped said = absurd (true≢false (sym shaped.0))
 labels_are_of_contents (struct_of all false) of v state t key shaped said =
-    read_at all of v state key shaped.1 shaped.2 (content_well_typed (struct_of all false) ((and_parts (is_well_formed (struct_of all false)) _ shaped.1).0) state.content said.well_typed.0) t
+    read_at all of v state key shaped.1 shaped.2.0 shaped.2.1 shaped.2.2 (content_well_typed (struct_of all false) ((and_parts (is_well_formed (struct_of all false)) _ shaped.1).0) state.content said.well_typed.0) t
     (text_read (struct_of all false) of v state t shaped said)
 labels_are_of_contents (map_of s b) of v state t key shaped said = absurd (true≢false (sym shaped.0))
 labels_are_of_contents (list_of s kind) of v state t key shaped said = absurd (true≢false (sym shaped.0))

@@ -13,11 +13,12 @@ use Rattle.typed.specs.Printing.{print}
 use Rattle.selector.specs.Fields.{about_name, attributes, fields_of, is_plain, is_plain_text, name_asked}
 use Rattle.selector.specs.Grammar.{begins_with, equal, sign_at}
 use Rattle.selector.specs.Requirement.{Requirement, equals, selects}
-use Rattle.lists.specs.Labels.{attributes_of, labels_of, name_in}
+use Rattle.history.specs.History.{Key}
+use Rattle.lists.specs.Labels.{attributes_of, labels_of}
 use Rattle.objects.specs.State.{State}
 use Rattle.objects.specs.ObjectText.{Identity, entry_items, members_printed, metadata_members, metadata_of, object_value, put_entries}
 use Rattle.objects.proofs.Back.{text_read}
-use Rattle.line_laws.specs.Names.{NamesAreOfObjects, NamesSelectObjects, SelectByName}
+use Rattle.line_laws.specs.Names.{KeysNameTexts, NamesAreOfObjects, NamesSelectObjects, SelectByName, name_in}
 use Rattle.line_laws.proofs.LabelsRead.{metadata_in_object}
 
 -- ---- the name of an object's text
@@ -36,6 +37,10 @@ name_in_value s of v state =
 
 pub names_are_of_objects : NamesAreOfObjects
 names_are_of_objects s of v state text shaped said = ap (option_and_then name_in) (text_read s of v state text shaped said) ∙ name_in_value s of v state
+
+pub keys_name_texts : KeysNameTexts
+keys_name_texts k s of v state text shaped said same =
+    ap (λ name. attributes (Some name) (labels_of text)) (sym same) ∙ ap (λ o. attributes o (labels_of text)) (sym (names_are_of_objects s of v state text shaped said))
 
 -- ---- metadata.name=NAME
 
@@ -61,11 +66,10 @@ asked_so name plain =
     ∙ ap (λ (t : Bool). option_map (λ r. r ∷ []) (option_map about_name (option_map equals (cond t (Some name) None)))) plain
 
 selected_by : (name : List ℕ) → SelectByName name (named name ∷ [])
-selected_by name s of v state text shaped said =
-    let is : selects (named name ∷ []) (attributes_of text) ≡ (bytes_eq of.name name && true) = ap (λ o. selects (named name ∷ []) (attributes o (labels_of text))) (names_are_of_objects s of v state text shaped said) in (
-      λ selects_it. (bytes_decides of.name name).0 (and_parts (bytes_eq of.name name) true (sym is ∙ selects_it)).0,
-      λ same. is ∙ ap (λ (t : Bool). t && true) ((bytes_decides of.name name).1 same),
-    )
+selected_by name k text = (
+  λ selects_it. (bytes_decides k.name name).0 (and_parts (bytes_eq k.name name) true selects_it).0,
+  λ same. ap (λ (t : Bool). t && true) ((bytes_decides k.name name).1 same),
+)
 
 pub names_select_objects : NamesSelectObjects
 names_select_objects name plain = (named name ∷ [], asked_so name plain, selected_by name)

@@ -20,8 +20,9 @@ use Rattle.pathmap.specs.Insides.{heads, inside}
 use Rattle.pathmap.proofs.Contents.{get-nothing}
 use Rattle.pathmap.proofs.Levels.{get-here-top}
 use Rattle.schema.specs.Lawful.{are_well_formed, is_well_formed, names_of}
-use Rattle.schema.specs.ObjectShape.{IsObjectShape, metadata}
+use Rattle.schema.specs.ObjectShape.{IsMetadata, IsObjectShape}
 use Rattle.schema.specs.Shape.{Shape, text, whole, truth, struct_of, map_of, list_of, Fields, no_fields, field, shape_at}
+use Rattle.schema.proofs.Metadata.{well_formed_at}
 use Rattle.typed.specs.WellTyped.{AreWellTyped, IsWellTyped}
 use Rattle.typed.specs.Printing.{each_member, object_or_none, print, print_fields, value_of, with_member, with_named}
 use Rattle.typed.proofs.Fitting.{content_well_typed}
@@ -106,21 +107,6 @@ map_read c well_typed =
     let all = each_text (λ e. print text (inside e c)) (λ e. printed_text (inside e c) (well_typed.1 e)) (heads c) no_members ([], refl) in
     (all.0, read_texts (each_member (λ e. print text (inside e c)) (heads c) no_members) all.0 all.1)
 
-labels_found : (a l : Option Data) → get_member (codes "labels") (with_member (codes "labels") l (with_member (codes "annotations") a no_members)) ≡ l
-labels_found None None = refl
-labels_found None (Some l) = refl
-labels_found (Some a) None = refl
-labels_found (Some a) (Some l) = refl
-
-metadata_read : (c : Content) → IsWellTyped metadata c → LabelsRead (get_member (codes "labels") (members_printed (print metadata c)))
-metadata_read c well_typed =
-    let a = print (map_of text false) (inside (name_text (codes "annotations")) c) in
-    let l = print (map_of text false) (inside (name_text (codes "labels")) c) in
-    let own = with_member (codes "labels") l (with_member (codes "annotations") a no_members) in
-    let fields = well_typed.1 in
-    let more = fields.1 in
-    subst LabelsRead (sym (ap (get_member (codes "labels")) (members_back own) ∙ labels_found a l)) (map_read (inside (name_text (codes "labels")) c) more.0)
-
 field_well_typed : (k : List ℕ) (t : Shape) (all : Fields) (c : Content) → shape_at k all ≡ Some t → AreWellTyped all c → IsWellTyped t (inside (name_text k) c)
 field_well_typed k t no_fields c is are = absurd cc
 field_well_typed k t (field f s more) c is are = by_name (bytes_eq f k) refl (λ there. field_well_typed k t more c there are.1) is
@@ -132,20 +118,37 @@ field_well_typed k t (field f s more) c is are = by_name (bytes_eq f k) refl (λ
         subst (λ u. IsWellTyped u (inside (name_text k) c)) shaped (subst (λ n. IsWellTyped s (inside (name_text n) c)) same are.0)
     by_name false named later there = later there
 
-struct_labels : (all : Fields) (c : Content) → is_well_formed (struct_of all false) ≡ true → IsWellTyped (struct_of all false) c → shape_at (codes "metadata") all ≡ Some metadata
-    → LabelsRead (get_member (codes "labels") (metadata_members (print (struct_of all false) c)))
-struct_labels all c formed well_typed has_metadata =
+-- what is printed of a struct's field
+field_printed : (k : List ℕ) (t : Shape) (all : Fields) (c : Content) → is_well_formed (struct_of all false) ≡ true → shape_at k all ≡ Some t
+    → get_member k (members_printed (print (struct_of all false) c)) ≡ print t (inside (name_text k) c)
+field_printed k t all c formed there =
     let up : ascend (names_of all) ≡ true = (and_parts (ascend (names_of all)) (are_well_formed all) formed).0 in
-    let there : get_member (codes "metadata") (members_printed (print (struct_of all false) c)) ≡ print metadata (inside (name_text (codes "metadata")) c)
-    = ap (get_member (codes "metadata")) (members_back (print_fields all c no_members)) ∙ found_field (codes "metadata") metadata all c no_members up has_metadata refl in
-    subst (λ o. LabelsRead (get_member (codes "labels") (members_printed o))) (sym there) (metadata_read (inside (name_text (codes "metadata")) c) (field_well_typed (codes "metadata") metadata all c has_metadata well_typed.1))
+    ap (get_member k) (members_back (print_fields all c no_members)) ∙ found_field k t all c no_members up there refl
+
+metadata_read : (m : Shape) (c : Content) → IsMetadata m → is_well_formed m ≡ true → IsWellTyped m c → LabelsRead (get_member (codes "labels") (members_printed (print m c)))
+metadata_read text c is formed well_typed = absurd (true≢false (sym is.granular))
+metadata_read whole c is formed well_typed = absurd (true≢false (sym is.granular))
+metadata_read truth c is formed well_typed = absurd (true≢false (sym is.granular))
+metadata_read (struct_of all true) c is formed well_typed = absurd (true≢false (sym is.granular))
+metadata_read (struct_of all false) c is formed well_typed =
+    subst LabelsRead (sym (field_printed (codes "labels") (map_of text false) all c formed is.labels))
+    (map_read (inside (name_text (codes "labels")) c) (field_well_typed (codes "labels") (map_of text false) all c is.labels well_typed.1))
+metadata_read (map_of s b) c is formed well_typed = absurd (true≢false (sym is.granular))
+metadata_read (list_of s kind) c is formed well_typed = absurd (true≢false (sym is.granular))
+
+struct_labels : (all : Fields) (c : Content) (m : Shape) → is_well_formed (struct_of all false) ≡ true → IsWellTyped (struct_of all false) c → shape_at (codes "metadata") all ≡ Some m → IsMetadata m
+    → LabelsRead (get_member (codes "labels") (metadata_members (print (struct_of all false) c)))
+struct_labels all c m formed well_typed has_metadata is =
+    let fields : are_well_formed all ≡ true = (and_parts (ascend (names_of all)) (are_well_formed all) formed).1 in
+    subst (λ o. LabelsRead (get_member (codes "labels") (members_printed o))) (sym (field_printed (codes "metadata") m all c formed has_metadata))
+    (metadata_read m (inside (name_text (codes "metadata")) c) is (well_formed_at (codes "metadata") m all fields has_metadata) (field_well_typed (codes "metadata") m all c has_metadata well_typed.1))
 
 labels_read : (s : Shape) (c : Content) → IsObjectShape s → is_well_formed s ≡ true → IsWellTyped s c → LabelsRead (get_member (codes "labels") (metadata_members (print s c)))
 labels_read text c shaped formed well_typed = absurd (true≢false (sym shaped.0))
 labels_read whole c shaped formed well_typed = absurd (true≢false (sym shaped.0))
 labels_read truth c shaped formed well_typed = absurd (true≢false (sym shaped.0))
 labels_read (struct_of all true) c shaped formed well_typed = absurd (true≢false (sym shaped.0))
-labels_read (struct_of all false) c shaped formed well_typed = struct_labels all c formed well_typed shaped.2
+labels_read (struct_of all false) c shaped formed well_typed = struct_labels all c shaped.2.0 formed well_typed shaped.2.1 shaped.2.2
 labels_read (map_of s b) c shaped formed well_typed = absurd (true≢false (sym shaped.0))
 labels_read (list_of s kind) c shaped formed well_typed = absurd (true≢false (sym shaped.0))
 

@@ -1,9 +1,9 @@
 //! Laws of what selects an object: the labels that selectors see, at the server and at the client, and the name. Each function
-//! does nothing; what it promises is the law. Labels and names are read in the crates `lists` and `decoder`, selectors in `selector`.
+//! does nothing; what it promises is the law. Labels are read in the crates `lists` and `decoder`, selectors in `selector`.
 
 ghost use Rattle.line_laws.specs.Labels.{LabelsAreOfContents};
 ghost use Rattle.line_laws.specs.LabelReaders.{ReadersAgree};
-ghost use Rattle.line_laws.specs.Names.{LabelSelectorsAskLabels, NamesAreOfObjects, NamesSelectObjects};
+ghost use Rattle.line_laws.specs.Names.{KeysNameTexts, LabelSelectorsAskLabels, NamesAreOfObjects, NamesSelectObjects};
 
 /// The labels that are read of an object's text are those of the content that the text was printed of.
 pub fn labels_are_of_contents()
@@ -25,7 +25,12 @@ pub fn names_are_of_objects()
     ensures { NamesAreOfObjects }
 {}
 
-/// So `metadata.name=NAME` selects just the objects of that name.
+/// So the name and the labels by which an object is selected, that of its key and those of its text, are its text's.
+pub fn keys_name_texts()
+    ensures { KeysNameTexts }
+{}
+
+/// `metadata.name=NAME` selects just the objects of that name.
 pub fn names_select_objects()
     ensures { NamesSelectObjects }
 {}

@@ -15,8 +15,8 @@ mod page_laws;
 pub use deletions::deletions_show_the_object;
 pub use following::{bookmarks_come_behind, watches_send_all};
 pub use label_laws::{
-    label_selectors_ask_labels, labels_are_of_contents, names_are_of_objects, names_select_objects,
-    readers_agree,
+    keys_name_texts, label_selectors_ask_labels, labels_are_of_contents, names_are_of_objects,
+    names_select_objects, readers_agree,
 };
 pub use lines::{lines_are_lines, lines_are_read, objects_are_read};
 pub use page_laws::pages_are_read;

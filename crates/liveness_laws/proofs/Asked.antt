@@ -1,5 +1,5 @@
 -- The client's request for a page asks the call for that page, where its head is within the server's limit.
-use Rattle.std.proofs.Common.{◌≡◌, ℕ, ◌≤◌, true, false, List, [], ◌∷◌, ◌++◌, All, length, Option, Some, None, codes, refl, sym, ap, subst, ◌∙◌, arith, leb-true}
+use Rattle.std.proofs.Common.{◌≡◌, ℕ, ◌≤◌, true, List, [], ◌∷◌, ◌++◌, All, length, Option, Some, None, codes, refl, sym, ap, subst, ◌∙◌, arith, leb-true}
 use Rattle.std.proofs.lemmas.Bool.{and_parts}
 use Rattle.std.proofs.lemmas.List.Elements.{All-append, All-cons, All-nil, All-weaker}
 use Rattle.std.specs.Prelude.{nat_le}
@@ -12,9 +12,9 @@ use Rattle.params.specs.Query.{Pairs}
 use Rattle.lists.specs.Body.{continued_at}
 use Rattle.lists.specs.TokenLaws.{CanBeListed, next_pairs, token_after}
 use Rattle.lists.proofs.Tokens.{query_is_read}
-use Rattle.api_request.specs.declared.method.Method.TheVariants.{Get}
-use Rattle.api_request.specs.Admit.{RequestInfo, admitted, path_admitted, place_admitted}
-use Rattle.api_request.specs.Calls.{Call, Target}
+use Rattle.api_request.specs.declared.verb.Verb.TheVariants.{Get}
+use Rattle.api_request.specs.Admit.{RequestInfo, admitted, method_named, path_admitted, place_admitted}
+use Rattle.api_request.specs.Calls.{Call, Target, of_objects, collection_in}
 use Rattle.api_validation.specs.Parameters.{read_or_refused}
 use Rattle.wire.specs.Heads.{max_head}
 use Rattle.wire.proofs.Lines.{passes_each}
@@ -41,18 +41,18 @@ page_is_low size is = leb-true size 500 (and_parts (nat_le 1 size) (nat_le size 
 
 module _ (ask : RequestsAsk) (types : List ServedShape) (task : Task) (is : IsTask types task) where
   abbrev asked_of : Target
-  asked_of = record { kind = task.settings.kind; namespace = task.settings.namespace; name = None; status = false; method = Get }
+  asked_of = of_objects task.settings.kind (collection_in task.settings.namespace) Get
 
   abbrev pub call_with : List ℕ → Call
   call_with query = record { target = asked_of; query = query; body = None }
 
   got : (namespace : Option (List ℕ))
-      → place_admitted (record { resource = resource_for namespace; kind = task.settings.kind; namespace = namespace; name = None }) (codes "GET") None ≡ Ok (record asked_of { namespace = namespace })
+      → place_admitted (record { resource = resource_for namespace; kind = task.settings.kind; namespace = namespace; name = None }) (method_named (codes "GET")) None ≡ Ok (of_objects task.settings.kind (collection_in namespace) Get)
   got None = refl
   got (Some namespace) = refl
 
-  is_admitted : admitted types (codes "GET") (path_of (wanted_by task)) None ≡ Ok asked_of
-  is_admitted = ap (λ (o : Option RequestInfo). path_admitted types o (codes "GET") (path_of (wanted_by task)) None) (path_reaches types task is) ∙ got task.settings.namespace
+  is_admitted : admitted types (method_named (codes "GET")) (path_of (wanted_by task)) None ≡ Ok asked_of
+  is_admitted = ap (λ (o : Option RequestInfo). path_admitted types o (method_named (codes "GET")) (path_of (wanted_by task)) None) (path_reaches types task is) ∙ got task.settings.namespace
 
   visible : (query : List ℕ) → All IsVisible query → All IsVisible (path_of (wanted_by task) ++ 63 ∷ query)
   visible query all =
@@ -89,15 +89,10 @@ module _ (ask : RequestsAsk) (types : List ServedShape) (task : Task) (is : IsTa
         subst (λ q. Asks types (bytes q) (accepted (call_with query))) (sym same)
             (asks_call query (form_visible [] pairs (All-nil IsVisible)) (subst (λ q. length (bytes q) ≤ max_head) same fits)),
         record {
-          lists = record {
-            served = is.served;
-            gets = refl;
-            unnamed = refl;
-            says = ap read_or_refused (first_is_read task.settings.page task.settings.selector task.requirements low is.text is.selector);
-            unwatched = refl;
-          };
-          kind = refl;
-          namespace = refl;
+          served = is.served;
+          gets = refl;
+          says = ap read_or_refused (first_is_read task.settings.page task.settings.selector task.requirements low is.text is.selector);
+          unwatched = refl;
         },
       )
 
@@ -113,14 +108,9 @@ module _ (ask : RequestsAsk) (types : List ServedShape) (task : Task) (is : IsTa
         subst (λ q. Asks types (bytes q) (accepted (call_with query))) (sym same)
             (asks_call query (form_visible [] pairs (All-nil IsVisible)) (subst (λ q. length (bytes q) ≤ max_head) same fits)),
         record {
-          lists = record {
-            served = is.served;
-            gets = refl;
-            unnamed = refl;
-            says = ap read_or_refused (query_is_read r task.settings.page k task.settings.selector task.requirements can low is.text is.selector);
-            unwatched = refl;
-          };
-          kind = refl;
-          namespace = refl;
+          served = is.served;
+          gets = refl;
+          says = ap read_or_refused (query_is_read r task.settings.page k task.settings.selector task.requirements can low is.text is.selector);
+          unwatched = refl;
         },
       )

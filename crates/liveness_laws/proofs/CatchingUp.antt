@@ -112,10 +112,10 @@ module _ (laws : Laws) (task : Task) (s : edge.State) (requested : List ℕ) (no
   call = asked_call.0
 
   abbrev from : WatchFrom
-  from = watch_after call (watch_values (with_shape task shape) now.revision) task_watch now.revision
+  from = watch_after task.settings.kind task.settings.namespace (watch_values (with_shape task shape) now.revision) task_watch now.revision
 
   plan_is : planned s.types s.machine call ≡ watch_plan from
-  plan_is = watch_opens s.types s.machine call (with_shape task shape).t (watch_values (with_shape task shape) now.revision) task_watch now.revision asked_call.2.watches begun kept
+  plan_is = watch_opens s.types s.machine call (with_shape task shape).t task.settings.kind task.settings.namespace (watch_values (with_shape task shape) now.revision) task_watch now.revision asked_call.2 begun kept
 
   abbrev watch : Watch
   watch = begun_at s.last_tick from
@@ -127,7 +127,7 @@ module _ (laws : Laws) (task : Task) (s : edge.State) (requested : List ℕ) (no
   answers = ap (λ (p : Plan). with_written new_connection (answer_bytes p.answer p.answer.watch) (edge.answer_phase s.last_tick p.answer.watch)) plan_is
 
   still : edge.machine_after s.types s.machine (accepted call) ≡ s.machine
-  still = ap (λ (p : Plan). machines.after s.machine p.change) plan_is
+  still = ap (λ (p : Plan). machines.after s.machine p.changes) plan_is
 
   abbrev hub_opened : edge.State
   hub_opened = edge.with_connections s (fin.insert left id new_connection)
@@ -163,7 +163,7 @@ module _ (laws : Laws) (task : Task) (s : edge.State) (requested : List ℕ) (no
   cached_then = ap (λ (b : Bool). (told_end b opened.client).cache) not_over
 
   its : IsTaskWatch task watch
-  its = record { kind = asked_call.2.kind; namespace = asked_call.2.namespace; requirements = refl; bookmarks = refl; left = refl; endless = refl }
+  its = record { kind = refl; namespace = refl; requirements = refl; bookmarks = refl; left = refl; endless = refl }
 
   -- ---- what follows
 

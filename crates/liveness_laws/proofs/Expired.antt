@@ -57,7 +57,7 @@ module _ (task : Task) (s : edge.State) (now : Cache) (some : 1 ≤ now.revision
   answer = (planned s.types s.machine call).answer
 
   plan_is : planned s.types s.machine call ≡ refused (list_refusal (Expired now.revision s.machine.compacted))
-  plan_is = watch_expired s.types s.machine call task_now.t (watch_values task_now now.revision) task_watch now.revision such.watches some past
+  plan_is = watch_expired s.types s.machine call task_now.t task_now.settings.kind task_now.settings.namespace (watch_values task_now now.revision) task_watch now.revision such some past
 
   read : (xs : List ReplyItem) × Items (answer_reply answer) xs × IsSentOf answer.status answer.body xs
   read = any_reply_read (record { reply = reply_read_back; counted = length_reads; none = unframed_read; uncounted = no_length }) answer.status None answer.body (status_is s.types s.machine call) (tt {0})
@@ -73,7 +73,7 @@ module _ (task : Task) (s : edge.State) (now : Cache) (some : 1 ≤ now.revision
       b = 72;
       bs = drop 1 (answer_reply answer);
       answers = ap (λ watch. with_written new_connection (answer_bytes answer watch) (edge.answer_phase s.last_tick watch)) (ap (λ (p : Plan). p.answer.watch) plan_is);
-      still = ap (λ (p : Plan). machines.after s.machine p.change) plan_is;
+      still = ap (λ (p : Plan). machines.after s.machine p.changes) plan_is;
       items = read.0;
       reads = read.1;
     };

@@ -3,7 +3,7 @@ use Rattle.std.proofs.Common.{◌≡◌, inl, inr, ℕ, ◌≤◌, cond, List, �
 use Rattle.std.proofs.lemmas.Bool.{le-ltb}
 use Rattle.history.specs.History.{state_at}
 use Rattle.params.specs.Values.{Token}
-use Rattle.lists.specs.Body.{list_text}
+use Rattle.lists.specs.Body.{Collection, list_text}
 use Rattle.lists.specs.Lists.{page_of}
 use Rattle.lists.specs.Revision.{exactly, revision_by, revision_of}
 use Rattle.lists.specs.declared.refusal.Refusal.TheVariants.{TooLarge}
@@ -11,7 +11,7 @@ use Rattle.api_request.specs.Calls.{Answer, Call, Plan}
 use Rattle.api_request.specs.Reasons.{code_of}
 use Rattle.verbs.specs.Machine as machines
 use Rattle.verbs.specs.Machine.{IsMachine}
-use Rattle.verbs.specs.Step.{planned}
+use Rattle.verbs.specs.Step.{collection_of, planned}
 use Rattle.requests.specs.Asks.{Asks, CallDecision}
 use Rattle.requests.specs.Decision.{accepted}
 use Rattle.requests.specs.Refusals.{as_denied, head_too_large, refuse}
@@ -28,7 +28,7 @@ use Rattle.wireclient.proofs.TooLong.{no_length, unframed_read}
 use Rattle.wire_laws.proofs.AnyLengths.{any_reply_read}
 use Rattle.wire_laws.proofs.Listings.{page_planned}
 use Rattle.wire_laws.proofs.Written.{status_is}
-use Rattle.wire_laws.specs.Listings.{listed_by, page_plan}
+use Rattle.wire_laws.specs.Listings.{page_plan}
 use Rattle.liveness_laws.specs.Leading.{IsListPhase}
 use Rattle.world_laws.proofs.Asking.{asks_first, asks_next}
 use Rattle.world_laws.proofs.Laws.{Laws}
@@ -73,11 +73,14 @@ module _ (laws : Laws) (task : Task) (s : edge.State) (still_is : IsStillTask s.
     abbrev answer : Answer
     answer = (planned s.types s.machine call).answer
 
+    abbrev of : Collection
+    of = collection_of task_now.t task_now.settings.kind task_now.settings.namespace
+
     abbrev text : List ℕ
-    text = list_text (listed_by task_now.t call) current (page_of (listed_by task_now.t call) (page_values task_now token) (state_at s.machine.changes current))
+    text = list_text of current (page_of of (page_values task_now token) (state_at s.machine.changes current))
 
     plan_is : planned s.types s.machine call ≡ page_plan text
-    plan_is = page_planned s.types s.machine call task_now.t (page_values task_now token) lists.lists current at
+    plan_is = page_planned s.types s.machine call task_now.t task_now.settings.kind task_now.settings.namespace (page_values task_now token) lists current at
 
     listed : IsRepliedTo s c bytes
     listed =
@@ -88,7 +91,7 @@ module _ (laws : Laws) (task : Task) (s : edge.State) (still_is : IsStillTask s.
           b = 72;
           bs = drop 1 (answer_reply answer);
           answers = ap (λ watch. with_written c (answer_bytes answer watch) (edge.answer_phase s.last_tick watch)) (ap (λ (p : Plan). p.answer.watch) plan_is);
-          still = ap (λ (p : Plan). machines.after s.machine p.change) plan_is;
+          still = ap (λ (p : Plan). machines.after s.machine p.changes) plan_is;
           items = read.0;
           reads = read.1;
         }

@@ -1,5 +1,5 @@
 -- What answers the client's request for a page of the list that stands now.
-use Rattle.std.proofs.Common.{◌≡◌, ℕ, ◌≤◌, min, Bool, true, cond, List, [], ◌∷◌, drop, length, Option, Some, None, option_map, Ok, Err, IsUtf8, refl, sym, ap, ap₂, subst, ◌∙◌, arith, le-leb, le_refl, ne_eqb, leb-true, zero-le}
+use Rattle.std.proofs.Common.{◌≡◌, ℕ, ◌≤◌, min, Bool, true, cond, List, [], ◌∷◌, drop, length, Option, Some, None, option_map, Ok, Err, IsUtf8, refl, sym, ap, subst, ◌∙◌, arith, le-leb, le_refl, ne_eqb, leb-true, zero-le}
 use Rattle.std.proofs.lemmas.Bool.{and_parts, le-ltb}
 use Rattle.std.proofs.lemmas.Str.{is_utf8-from_IsUtf8}
 use Rattle.std.specs.FinMap as fin
@@ -9,8 +9,8 @@ use Rattle.schema.specs.Shape.{Shape}
 use Rattle.history.specs.History.{Key, state_at}
 use Rattle.history.specs.Seen.{left_after, limited, seen_page}
 use Rattle.params.specs.Values.{Token}
-use Rattle.lists.specs.Body.{Collection, continued_at, list_text}
-use Rattle.lists.specs.Lists.{key_after, max_page, page_limit, page_of}
+use Rattle.lists.specs.Body.{continued_at, list_text}
+use Rattle.lists.specs.Lists.{key_after, max_page, page_limit}
 use Rattle.lists.specs.Revision.{exactly, revision_by, revision_of}
 use Rattle.lists.specs.TokenLaws.{CanBeListed, token_after}
 use Rattle.lists.specs.declared.refusal.Refusal.TheVariants.{TooLarge}
@@ -26,7 +26,7 @@ use Rattle.httpedge.specs.Connections.{new_connection}
 use Rattle.httpedge.specs.Steps as edge
 use Rattle.wire.specs.Heads.{max_head}
 use Rattle.wireclient.specs.Reads.{Items, max_body}
-use Rattle.wire_laws.specs.Listings.{listed_by, page_plan}
+use Rattle.wire_laws.specs.Listings.{page_plan}
 use Rattle.liveness_laws.proofs.Asked.{asks_first, asks_next, page_is_low}
 use Rattle.liveness_laws.proofs.Rounds.{Entries, IsBefore, PageComes}
 use Rattle.liveness_laws.specs.BothEnds.{PagesAreAnswered}
@@ -82,12 +82,8 @@ module _ (laws : PagesAreAnswered) (task : Task) (h : edge.State) (shape : Shape
 
     plan_is : planned h.types h.machine call ≡ page_plan text
     plan_is =
-        laws.planned_so h.types h.machine call (with_shape task shape).t (page_values (with_shape task shape) token) current lists.lists revision
-        ∙ ap (λ (c : Collection). page_plan (list_text c current (page_of c (page_values (with_shape task shape) token) (state_at h.machine.changes current)))) same_collection
+        laws.planned_so h.types h.machine call (with_shape task shape).t task.settings.kind task.settings.namespace (page_values (with_shape task shape) token) current lists revision
         ∙ ap (λ (o : Option Key). page_plan (list_text (collection task) current (page_now task h.machine o))) same
-      where
-        same_collection : listed_by (with_shape task shape).t call ≡ collection task
-        same_collection = ap₂ (λ (kind : ℕ) (namespace : Option (List ℕ)). record (collection task) { kind = kind; namespace = namespace }) lists.kind lists.namespace
 
     comes_by : PageComes task h behind
     comes_by =
@@ -99,7 +95,7 @@ module _ (laws : PagesAreAnswered) (task : Task) (h : edge.State) (shape : Shape
           text = text;
           asks = asks;
           answers = ap (λ (p : Plan). edge.answered h.last_tick new_connection p.answer) plan_is;
-          still = ap (λ (p : Plan). after h.machine p.change) plan_is;
+          still = ap (λ (p : Plan). after h.machine p.changes) plan_is;
           reads = subst (Items (reply 200 None text)) (laws.short 200 text low) (laws.replies 200 None text (omega arith, omega arith) (tt {0}) (omega (arith, low)));
           page = subst (λ (o : Option ℕ). IsReadAsPage (wanted_by task) text current (limited o (left_after behind entries))) (limit_is size is.page)
               (subst (λ (p : Plan). IsReadAsPage (wanted_by task) p.answer.body current (limited (page_limit size) (left_after behind entries))) plan_is read);

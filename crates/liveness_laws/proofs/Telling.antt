@@ -243,9 +243,9 @@ module _ (laws : Laws) (task : Task) where
       where
         by_test : (b : Bool) → nat_lt r machine.compacted ≡ b → edge.machine_after w.hub.types machine (accepted call) ≡ machine
         by_test true past =
-            ap (λ (p : Plan). machines.after machine p.change) (watch_expired w.hub.types machine call task_now.t (watch_values task_now r) task_watch r such.watches some (ltb-true r machine.compacted past))
+            ap (λ (p : Plan). machines.after machine p.changes) (watch_expired w.hub.types machine call task_now.t task_now.settings.kind task_now.settings.namespace (watch_values task_now r) task_watch r such some (ltb-true r machine.compacted past))
         by_test false low =
-            ap (λ (p : Plan). machines.after machine p.change) (watch_opens w.hub.types machine call task_now.t (watch_values task_now r) task_watch r such.watches some (ltb-false r machine.compacted low))
+            ap (λ (p : Plan). machines.after machine p.changes) (watch_opens w.hub.types machine call task_now.t task_now.settings.kind task_now.settings.namespace (watch_values task_now r) task_watch r such some (ltb-false r machine.compacted low))
 
     decides : (bytes : List ℕ) → bytes ≡ request_of (client_settings task) w.client → Decides bytes
     decides bytes is_request =

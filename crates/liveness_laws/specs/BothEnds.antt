@@ -12,7 +12,7 @@ use Rattle.lists.specs.Revision.{revision_of}
 use Rattle.lists.specs.TokenLaws.{token_after}
 use Rattle.api_request.specs.Calls.{Call}
 use Rattle.verbs.specs.Machine.{AreObjectTypes, AreUnicode, IsMachine}
-use Rattle.verbs.specs.Step.{planned}
+use Rattle.verbs.specs.Step.{collection_of, planned}
 use Rattle.requests.specs.Asks.{Asks}
 use Rattle.requests.specs.Bodies.{needs_body}
 use Rattle.requests.specs.ReplyBytes.{reply}
@@ -21,7 +21,7 @@ use Rattle.httpedge.specs.Steps.{State}
 use Rattle.wireclient.specs.Reads.{Items, max_body}
 use Rattle.wireclient.specs.Reply.{end, head, whole}
 use Rattle.wireclient.specs.Request.{request}
-use Rattle.wire_laws.specs.Listings.{IsListing, listed_by, page_plan}
+use Rattle.wire_laws.specs.Listings.{IsListing, page_plan}
 use Rattle.wire_laws.specs.Printed.{IsAllowed, IsPrinted, asked_without, is_question}
 use Rattle.wire_laws.specs.Replied.{reply_sent}
 use Rattle.world_laws.proofs.Laws.{Laws}
@@ -38,9 +38,9 @@ RequestsAsk =
 -- a client's request for a page is answered by that page, and the client reads it
 pub record PagesAreAnswered : Type 0 where
   pub asks : RequestsAsk
-  pub planned_so : (types : List ServedShape) (m : History) (call : Call) (t : ServedShape) (values : Values) (revision : ℕ) → IsListing types call t values
+  pub planned_so : (types : List ServedShape) (m : History) (call : Call) (t : ServedShape) (kind : ℕ) (namespace : Option (List ℕ)) (values : Values) (revision : ℕ) → IsListing types call t kind namespace values
       → revision_of m.current m.compacted values ≡ Ok revision
-      → planned types m call ≡ page_plan (list_text (listed_by t call) revision (page_of (listed_by t call) values (state_at m.changes revision)))
+      → planned types m call ≡ page_plan (list_text (collection_of t kind namespace) revision (page_of (collection_of t kind namespace) values (state_at m.changes revision)))
   pub replies : (code : ℕ) (allow : Option (List ℕ)) (body : List ℕ) → IsStatusCode code → IsAllowed allow → length body < 2 ^ 64 → Items (reply code allow body) (reply_sent code body)
   pub short : (code : ℕ) (body : List ℕ) → length body ≤ max_body → reply_sent code body ≡ head code ∷ whole body ∷ end ∷ []
   pub first : (types : List ServedShape) (task : Task) (machine : History) (call : Call) → IsTask types task → IsMachine types machine → IsListCall types task None call

@@ -67,11 +67,15 @@ optional_length missing = Ok None
 optional_length malformed = Err (as_denied bad_length)
 optional_length (number n) = if n == 0 then Ok None else sized n
 
-abbrev pub declared_length : Request → Result (Option ℕ) Denied
-declared_length request =
-    if needs_body request.method then (if request.transfer_encoded then Err (as_denied transfer_encoding) else needed_length request.length)
-    else if may_have_body request.method then (if request.transfer_encoded then Err (as_denied transfer_encoding) else optional_length request.length)
+-- of a request with this method
+abbrev pub declared_length_by : Option Method → Request → Result (Option ℕ) Denied
+declared_length_by method request =
+    if writes_by_body method then (if request.transfer_encoded then Err (as_denied transfer_encoding) else needed_length request.length)
+    else if deletes method then (if request.transfer_encoded then Err (as_denied transfer_encoding) else optional_length request.length)
     else Ok None
+
+abbrev pub declared_length : Request → Result (Option ℕ) Denied
+declared_length request = declared_length_by (method_named request.method) request
 
 -- ---- the body
 
@@ -84,8 +88,11 @@ declared_body None rest = accepted None
 declared_body (Some n) rest = body_of n rest
 
 -- the body by the head and the bytes after it
+abbrev pub body_by : Option Method → Request → List ℕ → Decision (Option Data)
+body_by method request rest = and_then (decided_by (declared_length_by method request)) (λ n. declared_body n rest)
+
 abbrev pub body_in : Request → List ℕ → Decision (Option Data)
-body_in request rest = and_then (decided_by (declared_length request)) (λ n. declared_body n rest)
+body_in request rest = body_by (method_named request.method) request rest
 
 -- of a DELETE: whether it says a length, other than 0, or says none that can be read
 abbrev pub has_length : Length → Bool
@@ -94,8 +101,11 @@ has_length malformed = true
 has_length (number n) = nat_lt 0 n
 
 -- the media type that is checked: a DELETE without a body has none
+abbrev pub checked_media_by : Option Method → Request → Option (List ℕ)
+checked_media_by method request = if deletes method && not (has_length request.length) then None else request.media
+
 abbrev pub checked_media : Request → Option (List ℕ)
-checked_media request = if may_have_body request.method && not (has_length request.length) then None else request.media
+checked_media request = checked_media_by (method_named request.method) request
 
 -- the request target is cut at its first question mark
 abbrev pub path_of : List ℕ → List ℕ

@@ -8,7 +8,7 @@ ghost use Rattle.api_types.specs.TypesFile.{ServedShape};
 ghost use Rattle.api_request.specs.Views.{target_of};
 ghost use Rattle.wire.specs.Heads.{head_end, max_head};
 ghost use Rattle.requests.specs.Asks.{call_with, call_in};
-ghost use Rattle.requests.specs.Bodies.{body_in, declared_body};
+ghost use Rattle.requests.specs.Bodies.{body_by, declared_body};
 ghost use Rattle.requests.specs.Pendings.{Awaits, Carries, Finds, FindsAll, asked_of, body_call};
 ghost use Rattle.requests.specs.Views.{request_in};
 
@@ -16,7 +16,7 @@ use crate::body::{body_of, declared_length};
 use crate::decision::Decision;
 use crate::head::{Head, read_to};
 use crate::request_target::{checked_media, path_of, query_of};
-use api_request::{AdmitFault, Call, Denied, Routes, Target};
+use api_request::{AdmitFault, Call, Denied, Method, Routes, Target};
 use api_types::Types;
 use std::alloc::{AllocError, Global};
 
@@ -117,11 +117,16 @@ fn ask_by_length(
 }
 
 /// What a request asks that was admitted to this target.
-fn ask_admitted(alloc: Global, target: Target, head: &Head<'_>) -> Result<Progress, AllocError>
-    ensures asks { IfOk result (λ a. asked_of a ≡ call_with (request_in head.now) (target_of target) (body_in (request_in head.now) head.now.rest.now)) }
-    ensures carries { IfOk result (Carries (λ rest. call_with (request_in head.now) (target_of target) (body_in (request_in head.now) rest)) head.now.size) }
+fn ask_admitted(
+    alloc: Global,
+    target: Target,
+    method: Option<Method>,
+    head: &Head<'_>,
+) -> Result<Progress, AllocError>
+    ensures asks { IfOk result (λ a. asked_of a ≡ call_with (request_in head.now) (target_of target) (body_by method (request_in head.now) head.now.rest.now)) }
+    ensures carries { IfOk result (Carries (λ rest. call_with (request_in head.now) (target_of target) (body_by method (request_in head.now) rest)) head.now.size) }
 {
-    match declared_length(head) {
+    match declared_length(method, head) {
         Ok(length) => ask_by_length(alloc, target, head, length),
         Err(denied) => Ok(Progress::Refused(denied)),
     }
@@ -137,14 +142,15 @@ fn ask_by_head(
     ensures asks { IfOk result (λ a. asked_of a ≡ call_in (types_view types.now) (request_in head.now) head.now.rest.now) }
     ensures carries { IfOk result (Carries (call_in (types_view types.now) (request_in head.now)) head.now.size) }
 {
+    let method = Method::named(head.method);
     match routes.admit(
         alloc,
         types,
-        head.method,
+        method,
         path_of(head.request_target),
-        checked_media(head),
+        checked_media(method, head),
     ) {
-        Ok(target) => ask_admitted(alloc, target, head),
+        Ok(target) => ask_admitted(alloc, target, method, head),
         Err(AdmitFault::Denied(denied)) => Ok(Progress::Refused(denied)),
         Err(AdmitFault::Memory) => Err(AllocError),
     }

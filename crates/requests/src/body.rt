@@ -3,7 +3,7 @@
 
 ghost use Rattle.std.specs.Prelude.{◌≡◌, IfOk};
 ghost use Rattle.wire.specs.Lengths.{decimal_value};
-ghost use Rattle.requests.specs.Bodies.{needs_body, may_have_body, json_in, some_json, sized, needed_length, optional_length, declared_length, body_of};
+ghost use Rattle.requests.specs.Bodies.{writes_by_body, deletes, json_in, some_json, sized, needed_length, optional_length, declared_length_by, body_of};
 ghost use Rattle.requests.specs.Views.{data_of, decision_of, declared_of, length_of, request_in};
 
 use crate::decision::Decision;
@@ -19,19 +19,16 @@ pub const MAX_BODY: usize = 262_144;
 /// The message where a body is longer.
 pub const BODY_TOO_LARGE: &str = "body over 262144 bytes";
 
-fn needs_body(method: &str) -> bool
-    ensures { result ≡ needs_body method.now }
+fn needs_body(method: Option<Method>) -> bool
+    ensures { result ≡ writes_by_body method }
 {
-    matches!(
-        Method::named(method),
-        Some(Method::Post | Method::Put | Method::Patch)
-    )
+    matches!(method, Some(Method::Post | Method::Put | Method::Patch))
 }
 
-pub(crate) fn may_have_body(method: &str) -> bool
-    ensures { result ≡ may_have_body method.now }
+pub(crate) fn may_have_body(method: Option<Method>) -> bool
+    ensures { result ≡ deletes method }
 {
-    matches!(Method::named(method), Some(Method::Delete))
+    matches!(method, Some(Method::Delete))
 }
 
 fn json_in(alloc: Global, bytes: &[u8]) -> Result<Decision<Option<Body>>, AllocError>
@@ -78,11 +75,14 @@ fn optional_length(length: Length<'_>) -> Result<Option<usize>, Denied>
 
 /// How many bytes of a body a head declares, or that there is none: only POST, PUT, PATCH and DELETE have one,
 /// and only DELETE may go without.
-pub(crate) fn declared_length(head: &Head<'_>) -> Result<Option<usize>, Denied>
-    ensures { declared_of result ≡ declared_length (request_in head.now) }
+pub(crate) fn declared_length(
+    method: Option<Method>,
+    head: &Head<'_>,
+) -> Result<Option<usize>, Denied>
+    ensures { declared_of result ≡ declared_length_by method (request_in head.now) }
 {
-    let needs = needs_body(head.method);
-    if !needs && !may_have_body(head.method) {
+    let needs = needs_body(method);
+    if !needs && !may_have_body(method) {
         return Ok(None);
     }
     if head.is_transfer_encoded {

@@ -2,11 +2,12 @@
 //! stands in `head`.
 
 ghost use Rattle.std.specs.Prelude.{◌≡◌, option_map};
-ghost use Rattle.requests.specs.Bodies.{has_length, checked_media, path_of, query_of};
+ghost use Rattle.requests.specs.Bodies.{has_length, checked_media_by, path_of, query_of};
 ghost use Rattle.requests.specs.Views.{length_of, request_in};
 
 use crate::body::{MAX_BODY, may_have_body};
 use crate::head::{Head, Length};
+use api_request::Method;
 use wire::decimal_value;
 
 /// What stands before the first question mark (RFC 9112, section 3.2.1).
@@ -41,10 +42,10 @@ fn has_length(length: Length<'_>) -> bool
 }
 
 /// The media type that is validated: a DELETE without a body has none.
-pub fn checked_media<'b>(head: &Head<'b>) -> Option<&'b [u8]>
-    ensures { option_map (λ m. m.now) result ≡ checked_media (request_in head.now) }
+pub fn checked_media<'b>(method: Option<Method>, head: &Head<'b>) -> Option<&'b [u8]>
+    ensures { option_map (λ m. m.now) result ≡ checked_media_by method (request_in head.now) }
 {
-    if may_have_body(head.method) && !has_length(head.length) {
+    if may_have_body(method) && !has_length(head.length) {
         None
     } else {
         head.media

@@ -35,7 +35,7 @@ module _ (task : Task) (kind : ℕ) (apart : kind ≢ task.settings.kind) where
   -- the object isn't one of those that are counted
   unselected : (body : List ℕ) → selection task (place_key task kind) body ≡ false
   unselected body =
-      ap (λ (b : Bool). (b && is_in_namespace task.settings.namespace (place_key task kind)) && selects task.requirements (attributes_of body)) (ne_eqb kind task.settings.kind apart)
+      ap (λ (b : Bool). (b && is_in_namespace task.settings.namespace (place_key task kind)) && selects task.requirements (attributes_of (place_key task kind) body)) (ne_eqb kind task.settings.kind apart)
 
   abbrev kept : Key → Option Object → Option Object
   kept = kept_object (selection task)

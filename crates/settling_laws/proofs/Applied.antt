@@ -1,6 +1,6 @@
 -- What an apply of counts makes of a machine.
-use Rattle.std.proofs.Common.{◌≡◌, ℕ, suc, Bool, true, false, cond, List, Option, Some, None, Ok, is_some, refl, sym, ap, subst, ◌∙◌, lt-ltb, true≢false}
-use Rattle.std.specs.Prelude.{IfSome, codes, nat_lt, slice_get}
+use Rattle.std.proofs.Common.{◌≡◌, ℕ, suc, Bool, true, false, cond, List, [], ◌∷◌, Option, Some, None, Ok, is_some, refl, sym, ap, subst, ◌∙◌, lt-ltb, true≢false}
+use Rattle.std.specs.Prelude.{codes, nat_lt, slice_get}
 use Rattle.std.specs.Cmp.{tied_itself}
 use Rattle.std.specs.FinMap as fin
 use Rattle.std.specs.Ordering.{is_eq}
@@ -17,7 +17,7 @@ use Rattle.api_request.specs.declared.reason.Reason.TheVariants.{ServiceUnavaila
 use Rattle.api_request.specs.Calls.{Call, Plan}
 use Rattle.api_request.specs.Validated.{Validated}
 use Rattle.api_validation.specs.Size.{size_validated}
-use Rattle.verbs.specs.Machine.{IsMachine, IsNamed, IsNext, after, decoded_state, state_by, state_of_existing}
+use Rattle.verbs.specs.Machine.{AreNext, IsMachine, IsNamed, IsNext, after, decoded_state, state_by, state_of_existing}
 use Rattle.verbs.specs.Step.{object_value_at, plan_for, plan_put, plan_put_unless_same, plan_without_change, planned, revisions_left, step, text_at}
 use Rattle.verbs.proofs.Changes.{current_objects_next, machine_next}
 use Rattle.verbs.proofs.Promise.{plans_come_next}
@@ -94,7 +94,7 @@ module _ (types : List ServedShape) (m : History) (kind : ℕ) (s : Summed) (pla
     change = record { revision = suc m.current; key = k; body = Some text }
 
     abbrev stored : ℕ → Plan
-    stored status = record { answer = record { status = status; body = text; watch = None }; change = Some change }
+    stored status = record { answer = record { status = status; body = text; watch = None }; changes = change ∷ [] }
 
     left : revisions_left m.current ≡ Ok tt
     left = require_ok (nat_lt m.current last_revision) ServiceUnavailable (codes "revisions are used up") (lt-ltb m.current last_revision room.revision)
@@ -102,12 +102,12 @@ module _ (types : List ServedShape) (m : History) (kind : ℕ) (s : Summed) (pla
     put_is : (status : ℕ) → plan_put summary_type m.current k status new ≡ Ok (stored status)
     put_is status = then_ok (size_validated (object_value_at summary_type k (suc m.current) new)) tt _ room.size ∙ then_ok (revisions_left m.current) tt _ left
 
-    put_ok : (status : ℕ) → (plan_for (plan_put summary_type m.current k status new)).change ≡ Some change
-    put_ok status = ap (λ (j : Validated Plan). (plan_for j).change) (put_is status)
+    put_ok : (status : ℕ) → (plan_for (plan_put summary_type m.current k status new)).changes ≡ change ∷ []
+    put_ok status = ap (λ (j : Validated Plan). (plan_for j).changes) (put_is status)
 
-    module _ (makes : (planned types m call).change ≡ Some change) where
+    module _ (makes : (planned types m call).changes ≡ change ∷ []) where
       next : IsNext types m change
-      next = subst (λ (o : Option Change). IfSome o (IsNext types m)) makes (plans_come_next types m call machine (body_json s place.0 place.1 is))
+      next = (subst (AreNext types m) makes (plans_come_next types m call machine (body_json s place.0 place.1 is))).0
 
       abbrev later : History
       later = written m k (Some text)
@@ -143,8 +143,8 @@ module _ (types : List ServedShape) (m : History) (kind : ℕ) (s : Summed) (pla
 
   unchanged : (o : Object) → found ≡ Some o → same_state new (decoded_state summary_shape o.body) ≡ true → (step types m call).1 ≡ m
   unchanged o at same =
-      ap (λ (p : Plan). after m p.change) (planned_so (Some o) at)
-      ∙ ap (λ (b : Bool). after m (plan_for (cond b (Ok (plan_without_change o)) (plan_put summary_type m.current k 200 new))).change) same
+      ap (λ (p : Plan). after m p.changes) (planned_so (Some o) at)
+      ∙ ap (λ (b : Bool). after m (plan_for (cond b (Ok (plan_without_change o)) (plan_put summary_type m.current k 200 new))).changes) same
 
   stood : (o : Object) → found ≡ Some o → decoded_state summary_shape o.body ≡ state_at types m k
   stood o at = sym (ap (state_by (slice_get types kind)) at ∙ under (Some o))
@@ -164,15 +164,15 @@ module _ (types : List ServedShape) (m : History) (kind : ℕ) (s : Summed) (pla
   -- ---- either way
 
   by_found : CanBeStored types m k s → (o : Option Object) → found ≡ o → HasCounts types m (step types m call).1 k s
-  by_found room None at = made room (ap (λ (p : Plan). p.change) (planned_so None at) ∙ put_ok room 201)
+  by_found room None at = made room (ap (λ (p : Plan). p.changes) (planned_so None at) ∙ put_ok room 201)
   by_found room (Some o) at = go (same_state new (decoded_state summary_shape o.body)) refl
     where
       go : (b : Bool) → same_state new (decoded_state summary_shape o.body) ≡ b → HasCounts types m (step types m call).1 k s
       go true same = subst (λ (h : History). HasCounts types m h k s) (sym (unchanged o at same)) (kept o at same)
       go false same =
           made room
-          (ap (λ (p : Plan). p.change) (planned_so (Some o) at)
-          ∙ ap (λ (b : Bool). (plan_for (cond b (Ok (plan_without_change o)) (plan_put summary_type m.current k 200 new))).change) same ∙ put_ok room 200)
+          (ap (λ (p : Plan). p.changes) (planned_so (Some o) at)
+          ∙ ap (λ (b : Bool). (plan_for (cond b (Ok (plan_without_change o)) (plan_put summary_type m.current k 200 new))).changes) same ∙ put_ok room 200)
 
   pub has_counts : CanBeStored types m k s → HasCounts types m (step types m call).1 k s
   has_counts room = by_found room found refl

@@ -18,10 +18,11 @@ use Rattle.names.specs.Names.{is_dns_byte, is_dns_label, is_dns_part, is_dns_sub
 use Rattle.serde_json.specs.Data.{Data}
 use Rattle.serde_json.specs.Written.{compact_text}
 use Rattle.api_types.specs.TypesFile.{ServedShape}
-use Rattle.api_request.specs.declared.method.Method.TheVariants.{Patch}
+use Rattle.api_request.specs.declared.verb.Verb.TheVariants.{Apply}
 use Rattle.api_request.specs.declared.resource.Resource.TheVariants.{Object}
-use Rattle.api_request.specs.Admit.{RequestInfo, admitted, path_admitted, place_of}
-use Rattle.api_request.specs.Calls.{Target}
+use Rattle.objects.specs.declared.manager.Subresource.TheVariants.{Main}
+use Rattle.api_request.specs.Admit.{RequestInfo, admitted, method_named, path_admitted, place_of}
+use Rattle.api_request.specs.Calls.{Target, of_object, of_objects}
 use Rattle.api_request.specs.RouteLaws.{IsPart, place_for}
 use Rattle.api_request.proofs.Leading.{paths_of_objects}
 use Rattle.verbs.specs.Machine.{IsNamed}
@@ -188,7 +189,7 @@ module _ (ask : RequestsAsk) (types : List ServedShape) (kind : ℕ) (s : Summed
       (All-append free of_namespace (middle ++ of_name) (unmarked_name of_namespace namespace_bytes) (All-append free middle of_name (literal_unmarked middle refl) (unmarked_name of_name name_bytes))))
 
   abbrev target : Target
-  target = record { kind = kind; namespace = Some of_namespace; name = Some of_name; status = false; method = Patch }
+  target = of_objects kind (of_object of_namespace of_name Main) Apply
 
   place_is : place_of types path ≡ Some (record { resource = Object; kind = kind; namespace = Some of_namespace; name = Some of_name })
   place_is =
@@ -198,8 +199,8 @@ module _ (ask : RequestsAsk) (types : List ServedShape) (kind : ℕ) (s : Summed
       (record { some = omega arith; ascii = refl; whole = refl }) (is_part of_name (some_in_subdomain of_name named.name) name_bytes)
       ∙ ap (place_for Object (Some of_namespace) (Some of_name)) serves.numbered
 
-  is_admitted : admitted types (codes "PATCH") path (Some media) ≡ Ok target
-  is_admitted = ap (λ (o : Option RequestInfo). path_admitted types o (codes "PATCH") path (Some media)) place_is
+  is_admitted : admitted types (method_named (codes "PATCH")) path (Some media) ≡ Ok target
+  is_admitted = ap (λ (o : Option RequestInfo). path_admitted types o (method_named (codes "PATCH")) path (Some media)) place_is
 
   abbrev body : Data
   body = summary_of s of_namespace of_name

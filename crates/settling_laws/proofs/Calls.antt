@@ -18,16 +18,17 @@ use Rattle.params.specs.declared.params.Asked.TheVariants as asked
 use Rattle.lists.specs.TokenLaws.{IsText, IsTextPair}
 use Rattle.pathmap.specs.Contents.{Content}
 use Rattle.typed.specs.Reading.{content_of}
+use Rattle.api_types.specs.Subresources.{is_apart}
 use Rattle.api_types.specs.TypesFile.{ServedShape}
 use Rattle.history.specs.History.{History, Key, Object, current_objects}
 use Rattle.objects.specs.declared.manager.Subresource.TheVariants.{Main}
 use Rattle.objects.specs.State.{State}
 use Rattle.ownership.specs.Apply.{Conflict, applied, conflicts, is_refused}
 use Rattle.ownership.specs.Sides.{own_part}
-use Rattle.api_request.specs.declared.method.Method.TheVariants.{Patch}
 use Rattle.api_request.specs.declared.reason.Reason.{Reason}
 use Rattle.api_request.specs.declared.reason.Reason.TheVariants.{BadRequest, Invalid}
-use Rattle.api_request.specs.Calls.{scope_of}
+use Rattle.api_request.specs.declared.verb.Verb.TheVariants.{Apply}
+use Rattle.api_request.specs.Calls.{of_object}
 use Rattle.api_request.specs.Validated.{Validated, and_then, require}
 use Rattle.api_validation.specs.Envelope.{Envelope, Expected, api_version_of, envelope_of, given_validated, must_be, wanted_validated}
 use Rattle.api_validation.specs.Naming.{names_validated, path_validated}
@@ -103,7 +104,7 @@ module _ (s : Summed) (kind : ℕ) (place : Place) where
   body = summary_of s place.0 place.1
 
   abbrev of : Expected
-  of = at_path summary_type k Patch Main
+  of = at_path summary_type k Apply Main
 
   abbrev rest : Data
   rest = object (member (codes "metadata") (object no_members) (member (codes "spec") (spec_of s) no_members))
@@ -138,10 +139,10 @@ module _ (s : Summed) (kind : ℕ) (place : Place) where
   forced [] = refl
   forced (c ∷ cs) = refl
 
-  owned : (old : State) → IsSayable s → ownership_validated (api_version_of summary_type) old (own_part Main (fields s)) label_summary true ≡ Ok (with_counts s old)
+  owned : (old : State) → IsSayable s → ownership_validated (api_version_of summary_type) old (own_part (is_apart summary_type) Main (fields s)) label_summary true ≡ Ok (with_counts s old)
   owned old is =
-      ap (λ (b : Bool). cond b (Err (conflict_refusal (api_version_of summary_type) (conflicts old (own_part Main (fields s)) label_summary))) (Ok (applied old (own_part Main (fields s)) label_summary)))
-      (forced (conflicts old (own_part Main (fields s)) label_summary))
+      ap (λ (b : Bool). cond b (Err (conflict_refusal (api_version_of summary_type) (conflicts old (own_part (is_apart summary_type) Main (fields s)) label_summary))) (Ok (applied old (own_part (is_apart summary_type) Main (fields s)) label_summary)))
+      (forced (conflicts old (own_part (is_apart summary_type) Main (fields s)) label_summary))
       ∙ ap (λ (c : Content). Ok (applied old c label_summary)) (sym (applied_is s is))
 
   abbrev pub new : Option Object → State
@@ -149,7 +150,7 @@ module _ (s : Summed) (kind : ℕ) (place : Place) where
 
   over : (current : ℕ) (found : Option Object) → IsSayable s → applied_over summary_type current k found intent ≡ plan_put_unless_same summary_type current k found (new found)
   over current found is =
-      then_ok (ownership_validated (api_version_of summary_type) (state_of_existing summary_type found) (own_part Main (fields s)) label_summary true) (new found) _ (owned (state_of_existing summary_type found) is)
+      then_ok (ownership_validated (api_version_of summary_type) (state_of_existing summary_type found) (own_part (is_apart summary_type) Main (fields s)) label_summary true) (new found) _ (owned (state_of_existing summary_type found) is)
 
   plans : (current : ℕ) (found : Option Object) → IsNamed k → IsSayable s → apply_plan Main summary_type current found k query body ≡ plan_put_unless_same summary_type current k found (new found)
   plans current found is_named is =
@@ -158,6 +159,6 @@ module _ (s : Summed) (kind : ℕ) (place : Place) where
   pub apply_planned : (types : List ServedShape) (m : History) → slice_get types kind ≡ Some summary_type → IsNamed k → IsSayable s
       → planned types m (apply_call kind s place) ≡ plan_for (plan_put_unless_same summary_type m.current k (fin.get (current_objects m) k) (new (fin.get (current_objects m) k)))
   apply_planned types m serves is_named is =
-      ap (λ (t : Option ServedShape). run_by (is_dry_run t (apply_call kind s place)) (current_objects m) (plan_for (dispatch_type types t (scope_of (Some place.0) (Some place.1) false) (from_history m) (apply_call kind s place))))
+      ap (λ (t : Option ServedShape). run_by (is_dry_run t (apply_call kind s place)) (current_objects m) (plan_for (dispatch_type t kind (of_object place.0 place.1 Main) Apply (from_history m) (apply_call kind s place))))
       serves
       ∙ ap plan_for (plans m.current (fin.get (current_objects m) k) is_named is)

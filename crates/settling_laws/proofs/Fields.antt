@@ -16,13 +16,14 @@ use Rattle.schema.specs.Shape as shape
 use Rattle.typed.specs.declared.fault.Cause.TheVariants.{WrongType}
 use Rattle.typed.specs.Faults.{Read, below, some_or}
 use Rattle.typed.specs.Reading.{at_field, content_of, joined}
+use Rattle.api_types.specs.Subresources.{is_apart}
 use Rattle.objects.specs.declared.manager.Subresource.TheVariants.{Main}
-use Rattle.ownership.specs.Sides.{own_part}
+use Rattle.ownership.specs.Sides.{own_part, writes}
 use Rattle.ownership.proofs.Sides.{get-own}
 use Rattle.summary.specs.Apply.{count_members, spec_of}
 use Rattle.summary.specs.Counts.{Summed}
 use Rattle.settling_laws.specs.Said.{IsSayable, IsSayableCount, applied_fields, count_path, count_value, counted_at, label_path, max_whole, read_or_nothing, spec_path, total_path}
-use Rattle.settling_laws.specs.SummaryType.{spec_shape, summary_shape}
+use Rattle.settling_laws.specs.SummaryType.{spec_shape, summary_shape, summary_type}
 
 abbrev Text : Type 0
 Text = List ℕ
@@ -64,8 +65,8 @@ module _ (s : Summed) where
     pub fields_read : content_of summary_shape (object (member (codes "spec") (spec_of s) no_members)) ≡ Ok fields
     fields_read = ap (λ (r : Read Content). joined (at_field (codes "spec") r) (Ok nothing)) spec_read
 
-    pub applied_is : applied_fields s ≡ own_part Main fields
-    applied_is = ap (λ (r : Read Content). own_part Main (read_or_nothing r)) fields_read
+    pub applied_is : applied_fields s ≡ own_part (is_apart summary_type) Main fields
+    applied_is = ap (λ (r : Read Content). own_part (is_apart summary_type) Main (read_or_nothing r)) fields_read
 
     -- an empty `metadata` beside them gives no field
     pub body_read : content_of summary_shape (object (member (codes "metadata") (object no_members) (member (codes "spec") (spec_of s) no_members))) ≡ Ok fields
@@ -105,10 +106,15 @@ module _ (s : Summed) where
       get-over (under (name_text (codes "spec")) (spec_fields s)) nothing (name_text (codes "spec") ∷ p)
       ∙ ap₂ either (at_name (name_text (codes "spec")) (name_text (codes "spec")) (spec_fields s) p true refl) (get-nothing (name_text (codes "spec") ∷ p)) ∙ either-None _
 
-  -- the main resource writes them
-  main_writes : (name : Text) (rest : PathTexts) → fin.get (own_part Main (fields s)) (spec_path name rest) ≡ fin.get (fields s) (spec_path name rest)
+  -- the main resource writes them, whether the status is apart or not
+  main_writes : (name : Text) (rest : PathTexts) → fin.get (own_part (is_apart summary_type) Main (fields s)) (spec_path name rest) ≡ fin.get (fields s) (spec_path name rest)
   unfolding name_text
-  main_writes name rest = get-own Main (fields s) (spec_path name rest)
+  main_writes name rest =
+      get-own (is_apart summary_type) Main (fields s) (spec_path name rest) ∙ ap (λ (b : Bool). cond b (fin.get (fields s) (spec_path name rest)) None) (in_part (is_apart summary_type))
+    where
+      in_part : (b : Bool) → writes b Main (spec_path name rest) ≡ true
+      in_part true = refl
+      in_part false = refl
 
   at_spec : IsSayable s → (name : Text) (rest : PathTexts) → fin.get (applied_fields s) (spec_path name rest) ≡ fin.get (spec_fields s) (name_text name ∷ rest)
   at_spec is name rest = ap (λ (c : Content). fin.get c (spec_path name rest)) (applied_is s is) ∙ main_writes name rest ∙ in_spec (name_text name ∷ rest)

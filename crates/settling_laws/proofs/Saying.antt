@@ -15,6 +15,7 @@ use Rattle.typed.specs.Fitting.{IsContent}
 use Rattle.typed.proofs.Fitting.{contents_well_typed}
 use Rattle.typed.proofs.Keeping.{reading_content}
 use Rattle.typed.proofs.Places.{places}
+use Rattle.api_types.specs.Subresources.{is_apart}
 use Rattle.objects.specs.declared.manager.Subresource.TheVariants.{Main}
 use Rattle.objects.specs.Owners.{Manager, is_same, owned_by}
 use Rattle.objects.specs.State.{State}
@@ -29,7 +30,7 @@ use Rattle.ownership.proofs.Sides.{own_content}
 use Rattle.summary.specs.Apply.{spec_of}
 use Rattle.summary.specs.Counts.{Summed}
 use Rattle.settling_laws.specs.Said.{AppliedStay, CountsAreOwn, IsSayable, IsShared, Says, SaysExactly, applied_fields, count_path, count_value, counted_at, label_path, label_summary, total_path, with_counts}
-use Rattle.settling_laws.specs.SummaryType.{summary_shape}
+use Rattle.settling_laws.specs.SummaryType.{summary_shape, summary_type}
 use Rattle.settling_laws.proofs.Encoded.{fields_encodable, fields_shallow}
 use Rattle.settling_laws.proofs.Fields.{applied_is, field_count, field_label, field_total, fields, fields_read}
 
@@ -41,7 +42,7 @@ has_places c content = places summary_shape c ((contents_well_typed summary_shap
 pub fields_content : (s : Summed) → IsSayable s → IsContent summary_shape (applied_fields s)
 fields_content s is =
     subst (IsContent summary_shape) (sym (applied_is s is))
-    (own_content Main summary_shape (fields s) (reading_content summary_shape (object (member (codes "spec") (spec_of s) no_members)) (fields s) refl (fields_encodable s is) (fields_shallow s is) (fields_read s is)))
+    (own_content (is_apart summary_type) Main summary_shape (fields s) (reading_content summary_shape (object (member (codes "spec") (spec_of s) no_members)) (fields s) refl (fields_encodable s is) (fields_shallow s is) (fields_read s is)))
 
 -- a count is a leaf
 count_end : (value : List ℕ) → is_end (place_of summary_shape (count_path value)) ≡ true

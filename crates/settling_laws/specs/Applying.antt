@@ -1,14 +1,15 @@
 -- What an apply of counts asks, and what it makes of a machine.
-use Rattle.std.specs.Prelude.{◌≡◌, ◌<◌, ◌≤◌, ℕ, suc, true, false, List, length, Some, codes, slice_get}
+use Rattle.std.specs.Prelude.{◌≡◌, ◌<◌, ◌≤◌, ℕ, suc, true, List, length, Some, codes, slice_get}
 use Rattle.std.specs.declared.result.Result.TheVariants.{Ok}
 use Rattle.std.specs.FinMap as fin
 use Rattle.serde_json.specs.Written.{compact_text}
 use Rattle.api_types.specs.TypesFile.{ServedShape, type_number}
 use Rattle.history.specs.History.{History, Key, current_objects, last_revision}
 use Rattle.objects.specs.State.{State}
+use Rattle.objects.specs.declared.manager.Subresource.TheVariants.{Main}
 use Rattle.indexer.specs.Objects.{Place}
-use Rattle.api_request.specs.declared.method.Method.TheVariants.{Patch}
-use Rattle.api_request.specs.Calls.{Call}
+use Rattle.api_request.specs.declared.verb.Verb.TheVariants.{Apply}
+use Rattle.api_request.specs.Calls.{Call, of_object, of_objects}
 use Rattle.api_validation.specs.Size.{size_validated}
 use Rattle.verbs.specs.Machine.{IsMachine, IsNamed, state_under}
 use Rattle.verbs.specs.Step.{object_value_at, step}
@@ -33,7 +34,7 @@ pub record ServesSummaries (types : List ServedShape) (kind : ℕ) : Type 0 wher
 -- an apply of the counts to the object of this namespace and name, forced, by the manager label-summary
 abbrev pub apply_call : ℕ → Summed → Place → Call
 apply_call kind s place = record {
-  target = record { kind = kind; namespace = Some place.0; name = Some place.1; status = false; method = Patch };
+  target = of_objects kind (of_object place.0 place.1 Main) Apply;
   query = codes "fieldManager=label-summary&force=true";
   body = Some (summary_of s place.0 place.1);
 }

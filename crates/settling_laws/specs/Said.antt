@@ -9,6 +9,7 @@ use Rattle.fieldpath.specs.Paths.{PathTexts}
 use Rattle.pathmap.specs.Contents.{Content, LeafValue, nothing, text, whole}
 use Rattle.typed.specs.Faults.{Read}
 use Rattle.typed.specs.Reading.{content_of}
+use Rattle.api_types.specs.Subresources.{is_apart}
 use Rattle.objects.specs.declared.manager.Subresource.TheVariants.{Main}
 use Rattle.objects.specs.Owners.{Manager, apply_operation, manager_by}
 use Rattle.objects.specs.State.{State}
@@ -17,7 +18,7 @@ use Rattle.ownership.specs.Apply.{applied}
 use Rattle.ownership.specs.Sides.{own_part}
 use Rattle.summary.specs.Apply.{spec_of}
 use Rattle.summary.specs.Counts.{Summed}
-use Rattle.settling_laws.specs.SummaryType.{summary_shape}
+use Rattle.settling_laws.specs.SummaryType.{summary_shape, summary_type}
 
 -- ---- paths
 
@@ -47,7 +48,7 @@ read_or_nothing (Err e) = nothing
 
 -- the fields that are applied: what their value spells under the type's schema
 abbrev pub applied_fields : Summed → Content
-applied_fields s = own_part Main (read_or_nothing (content_of summary_shape (object (member (codes "spec") (spec_of s) no_members))))
+applied_fields s = own_part (is_apart summary_type) Main (read_or_nothing (content_of summary_shape (object (member (codes "spec") (spec_of s) no_members))))
 
 -- the object after the apply: the fields over what stood there, less those that were the controller's alone and are no more
 abbrev pub with_counts : Summed → State → State

@@ -6,6 +6,7 @@ use Rattle.schema.specs.ObjectShape.{IsObjectShape, metadata}
 use Rattle.schema.specs.Shape.{Shape, text, whole, struct_of, map_of, field, no_fields}
 use Rattle.api_types.specs.Named.{has_names}
 use Rattle.api_types.specs.TypesFile.{ServedShape, type_of}
+use Rattle.api_types.specs.declared.profile.Profile.TheVariants.{Plain}
 
 -- ---- as it is printed
 
@@ -37,10 +38,10 @@ abbrev pub summary_shape : Shape
 summary_shape = struct_of (field (codes "metadata") metadata (field (codes "spec") spec_shape no_fields)) false
 
 abbrev pub summary_type : ServedShape
-summary_type = record { group = codes "summary.example"; version = codes "v1"; kind = codes "LabelSummary"; plural = codes "labelsummaries"; shape = summary_shape; is_discovered = false }
+summary_type = record { group = codes "summary.example"; version = codes "v1"; kind = codes "LabelSummary"; plural = codes "labelsummaries"; shape = summary_shape; profile = Plain }
 
 -- ---- the law
 
 -- The declaration is read as this type, its names are lawful, and its schema is that of an object.
 abbrev pub SummariesCanBeServed : Type 0
-SummariesCanBeServed = (type_of declaration ≡ Ok summary_type) × (has_names summary_type ≡ true) × IsObjectShape summary_shape
+SummariesCanBeServed = (type_of Plain declaration ≡ Ok summary_type) × (has_names summary_type ≡ true) × IsObjectShape summary_shape

@@ -21,16 +21,16 @@ use Rattle.answers.specs.declared.watch_from.InitialEvents.TheVariants.{Changes}
 use Rattle.watchline.specs.Opening.{from_parts, initial_in, opened_by, starts}
 use Rattle.watchline.specs.Watches.{from_history}
 use Rattle.line_laws.specs.Listed.{AreKept, IsKept, IsReadAsPage, IsWanted}
-use Rattle.api_request.specs.declared.method.Method.TheVariants.{Get}
-use Rattle.api_request.specs.Calls.{Answer, Call, Plan, of_all, of_namespace, scope_of}
+use Rattle.api_request.specs.declared.verb.Verb.TheVariants.{Get}
+use Rattle.api_request.specs.Calls.{Answer, Call, Plan, Target, of_objects, collection_in, type_at}
 use Rattle.verbs.specs.Machine.{IsMachine, IsSomeTextAt, identity_of}
 use Rattle.api_validation.specs.Parameters.{parameters_validated}
 use Rattle.api_validation.proofs.Readings.{words_are_read_on_each}
 use Rattle.verbs.specs.DryRuns.{is_dry_run, run_by}
 use Rattle.verbs.specs.PromiseLaws.{TextsSayStates}
-use Rattle.verbs.specs.Step.{collection_of, list_answered, list_refusal, list_plan, page_shown, plan_for, planned, refused, shown_by, dispatch_type, dispatch_scope, dispatch_call, watch_shown}
+use Rattle.verbs.specs.Step.{collection_of, list_answered, list_refusal, list_plan, page_shown, plan_for, planned, refused, shown_by, dispatch_target, dispatch_type, dispatch_scope, dispatch_call, watch_shown}
 use Rattle.api_request.specs.Validated.{Validated, and_then}
-use Rattle.wire_laws.specs.Listings.{IsListing, IsWatching, listed_by, page_plan, watch_after, watch_plan}
+use Rattle.wire_laws.specs.Listings.{IsListing, IsWatching, page_plan, watch_after, watch_plan}
 
 -- ---- what is kept
 
@@ -60,8 +60,8 @@ machine_keeps say types m t kind namespace r is served k o same there = text_kep
 
 -- ---- the plan of a list or a watch
 
-abbrev page_text : ServedShape → Call → Values → ℕ → History → List ℕ
-page_text t call values revision m = list_text (listed_by t call) revision (page_of (listed_by t call) values (state_at m.changes revision))
+abbrev page_text : Collection → Values → ℕ → History → List ℕ
+page_text of values revision m = list_text of revision (page_of of values (state_at m.changes revision))
 
 -- a list that is a dry run is that list
 answered_still : (is_dry : Bool) (objects : Objects) (r : Result Answer Refusal) → run_by is_dry objects (plan_for (list_answered r)) ≡ plan_for (list_answered r)
@@ -69,64 +69,70 @@ answered_still true objects (Ok answer) = refl
 answered_still true objects (Err refusal) = refl
 answered_still false objects r = refl
 
-module _ (types : List ServedShape) (m : History) (call : Call) (t : ServedShape) (values : Values) (served : slice_get types call.target.kind ≡ Some t) (gets : call.target.method ≡ Get)
-    (unnamed : call.target.name ≡ None) (says : parameters_validated asked.List call.query ≡ Ok values) where
-  by_namespace : (namespace : Option (List ℕ))
-      → dispatch_type types (Some t) (scope_of namespace None call.target.status) (from_history m) call ≡ list_plan t (from_history m) call.target.kind namespace call.query
-  by_namespace None = ap (λ how. dispatch_scope of_all how t (from_history m) call) gets
-  by_namespace (Some namespace) = ap (λ how. dispatch_scope (of_namespace namespace) how t (from_history m) call) gets
+module _ (types : List ServedShape) (m : History) (call : Call) (t : ServedShape) (kind : ℕ) (namespace : Option (List ℕ)) (values : Values) (served : slice_get types kind ≡ Some t)
+    (gets : call.target ≡ of_objects kind (collection_in namespace) Get) (says : parameters_validated asked.List call.query ≡ Ok values) where
+  abbrev of : Collection
+  of = collection_of t kind namespace
 
-  validated_is : dispatch_call types (from_history m) call ≡ list_answered (shown_by (from_history m) (listed_by t call) values values.watch)
+  by_namespace : (n : Option (List ℕ)) → dispatch_scope (collection_in n) Get t kind (from_history m) call ≡ list_plan t (from_history m) kind n call.query
+  by_namespace None = refl
+  by_namespace (Some n) = refl
+
+  validated_is : dispatch_call types (from_history m) call ≡ list_answered (shown_by (from_history m) of values values.watch)
   validated_is =
-      ap (λ o. dispatch_type types o (scope_of call.target.namespace call.target.name call.target.status) (from_history m) call) served
-      ∙ ap (λ name. dispatch_type types (Some t) (scope_of call.target.namespace name call.target.status) (from_history m) call) unnamed
-      ∙ by_namespace call.target.namespace
-      ∙ ap (λ (v : Validated Values). and_then v (λ said. list_answered (shown_by (from_history m) (listed_by t call) said said.watch))) (words_are_read_on_each t asked.List call.query values says)
+      ap (λ (target : Target). dispatch_target types target (from_history m) call) gets
+      ∙ ap (λ o. dispatch_type o kind (collection_in namespace) Get (from_history m) call) served
+      ∙ by_namespace namespace
+      ∙ ap (λ (v : Validated Values). and_then v (λ said. list_answered (shown_by (from_history m) of said said.watch))) (words_are_read_on_each t asked.List call.query values says)
 
-  shown_as : (watch : Option Watch) → values.watch ≡ watch → planned types m call ≡ plan_for (list_answered (shown_by (from_history m) (listed_by t call) values watch))
+  shown_as : (watch : Option Watch) → values.watch ≡ watch → planned types m call ≡ plan_for (list_answered (shown_by (from_history m) of values watch))
   shown_as watch is =
-      ap (λ (j : Validated Plan). run_by (is_dry_run (slice_get types call.target.kind) call) (current_objects m) (plan_for j)) validated_is
-      ∙ answered_still (is_dry_run (slice_get types call.target.kind) call) (current_objects m) (shown_by (from_history m) (listed_by t call) values values.watch)
-      ∙ ap (λ o. plan_for (list_answered (shown_by (from_history m) (listed_by t call) values o))) is
+      ap (λ (j : Validated Plan). run_by (is_dry_run (type_at types call.target) call) (current_objects m) (plan_for j)) validated_is
+      ∙ answered_still (is_dry_run (type_at types call.target) call) (current_objects m) (shown_by (from_history m) of values values.watch)
+      ∙ ap (λ o. plan_for (list_answered (shown_by (from_history m) of values o))) is
 
 -- ---- of a list
 
-module _ (types : List ServedShape) (m : History) (call : Call) (t : ServedShape) (values : Values) (is : IsListing types call t values) where
-  list_planned : planned types m call ≡ plan_for (list_answered (page_shown (list_of (listed_by t call) values m.current m.compacted (state_at m.changes))))
-  list_planned = shown_as types m call t values is.served is.gets is.unnamed is.says None is.unwatched
+module _ (types : List ServedShape) (m : History) (call : Call) (t : ServedShape) (kind : ℕ) (namespace : Option (List ℕ)) (values : Values) (is : IsListing types call t kind namespace values) where
+  abbrev listed : Collection
+  listed = collection_of t kind namespace
 
-  pub text_is : (revision : ℕ) → revision_of m.current m.compacted values ≡ Ok revision → list_of (listed_by t call) values m.current m.compacted (state_at m.changes) ≡ Ok (page_text t call values revision m)
-  text_is revision at = ap (text_at (listed_by t call) values (state_at m.changes)) at
+  list_planned : planned types m call ≡ plan_for (list_answered (page_shown (list_of listed values m.current m.compacted (state_at m.changes))))
+  list_planned = shown_as types m call t kind namespace values is.served is.gets is.says None is.unwatched
 
-  pub page_planned : (revision : ℕ) → revision_of m.current m.compacted values ≡ Ok revision → planned types m call ≡ page_plan (page_text t call values revision m)
+  pub text_is : (revision : ℕ) → revision_of m.current m.compacted values ≡ Ok revision → list_of listed values m.current m.compacted (state_at m.changes) ≡ Ok (page_text listed values revision m)
+  text_is revision at = ap (text_at listed values (state_at m.changes)) at
+
+  pub page_planned : (revision : ℕ) → revision_of m.current m.compacted values ≡ Ok revision → planned types m call ≡ page_plan (page_text listed values revision m)
   page_planned revision at = list_planned ∙ ap (λ text. plan_for (list_answered (page_shown text))) (text_is revision at)
 
   pub list_refused : (refusal : Refusal) → revision_of m.current m.compacted values ≡ Err refusal → planned types m call ≡ refused (list_refusal refusal)
-  list_refused refusal at = list_planned ∙ ap (λ r. plan_for (list_answered (page_shown (text_at (listed_by t call) values (state_at m.changes) r)))) at
+  list_refused refusal at = list_planned ∙ ap (λ r. plan_for (list_answered (page_shown (text_at listed values (state_at m.changes) r)))) at
 
 -- ---- of a watch
 
 -- by whether the version is 0, and whether changes after it were forgotten
-abbrev plan_by : Call → Values → Watch → ℕ → History → InitialEvents → Bool → Bool → Plan
-plan_by call values watch v m objects any forgotten =
-    plan_for (list_answered (watch_shown (opened_by (from_parts call.target.kind call.target.namespace values.selector watch)
+abbrev plan_by : ℕ → Option (List ℕ) → Values → Watch → ℕ → History → InitialEvents → Bool → Bool → Plan
+plan_by kind namespace values watch v m objects any forgotten =
+    plan_for (list_answered (watch_shown (opened_by (from_parts kind namespace values.selector watch)
     (if any then Ok (m.current, objects) else (if forgotten then Err (Expired v m.compacted) else Ok (v, Changes))))))
 
-module _ (types : List ServedShape) (m : History) (call : Call) (t : ServedShape) (values : Values) (watch : Watch) (v : ℕ) (is : IsWatching types call t values watch v) (some : 0 < v) where
+module _ (types : List ServedShape) (m : History) (call : Call) (t : ServedShape) (kind : ℕ) (namespace : Option (List ℕ)) (values : Values) (watch : Watch) (v : ℕ)
+    (is : IsWatching types call t kind namespace values watch v) (some : 0 < v) where
   abbrev objects : InitialEvents
-  objects = initial_in (from_history m) call.target.kind call.target.namespace values.selector
+  objects = initial_in (from_history m) kind namespace values.selector
 
-  watch_planned : planned types m call ≡ plan_by call values watch v m objects false (nat_lt v m.compacted)
+  watch_planned : planned types m call ≡ plan_by kind namespace values watch v m objects false (nat_lt v m.compacted)
   watch_planned =
-      shown_as types m call t values is.served is.gets is.unnamed is.says (Some watch) is.watches
-      ∙ ap (λ o. plan_for (list_answered (watch_shown (opened_by (from_parts call.target.kind call.target.namespace values.selector watch) (starts (from_history m) o objects))))) is.after
-      ∙ ap (λ b. plan_by call values watch v m objects b (nat_lt v m.compacted)) (ne_eqb v 0 (λ none. absurd (omega (arith, none, some))))
+      shown_as types m call t kind namespace values is.served is.gets is.says (Some watch) is.watches
+      ∙ ap (λ o. plan_for (list_answered (watch_shown (opened_by (from_parts kind namespace values.selector watch) (starts (from_history m) o objects))))) is.after
+      ∙ ap (λ b. plan_by kind namespace values watch v m objects b (nat_lt v m.compacted)) (ne_eqb v 0 (λ none. absurd (omega (arith, none, some))))
 
-  pub watch_opens : m.compacted ≤ v → planned types m call ≡ watch_plan (watch_after call values watch v)
-  watch_opens low = watch_planned ∙ ap (plan_by call values watch v m objects false) (le-ltb v m.compacted low)
+  pub watch_opens : m.compacted ≤ v → planned types m call ≡ watch_plan (watch_after kind namespace values watch v)
+  watch_opens low = watch_planned ∙ ap (plan_by kind namespace values watch v m objects false) (le-ltb v m.compacted low)
 
   pub watch_expired : v < m.compacted → planned types m call ≡ refused (list_refusal (Expired v m.compacted))
-  watch_expired past = watch_planned ∙ ap (plan_by call values watch v m objects false) (lt-ltb v m.compacted past)
+  watch_expired past = watch_planned ∙ ap (plan_by kind namespace values watch v m objects false) (lt-ltb v m.compacted past)
 
 -- ---- what a client reads
 
@@ -141,17 +147,17 @@ AnswersAreRead =
     → compacted ≤ current → current ≤ max_version → list_of of values current compacted at ≡ Ok text → IsUtf8 text
     → (revision : ℕ) × (revision_of current compacted values ≡ Ok revision) × IsReadAsPage wanted text revision (page_of of values (at revision))
 
-pub list_read : TextsSayStates → AnswersAreRead → (wanted : Wanted) (types : List ServedShape) (m : History) (call : Call) (t : ServedShape) (values : Values) (revision : ℕ) → IsMachine types m
-    → IsListing types call t values → IsWanted wanted (listed_by t call) → revision_of m.current m.compacted values ≡ Ok revision → IsUtf8 (planned types m call).answer.body
-    → IsReadAsPage wanted (planned types m call).answer.body revision (page_of (listed_by t call) values (state_at m.changes revision))
-list_read say read wanted types m call t values revision is lists asks at text =
-    let of = listed_by t call in
+pub list_read : TextsSayStates → AnswersAreRead → (wanted : Wanted) (types : List ServedShape) (m : History) (call : Call) (t : ServedShape) (kind : ℕ) (namespace : Option (List ℕ)) (values : Values) (revision : ℕ)
+    → IsMachine types m → IsListing types call t kind namespace values → IsWanted wanted (collection_of t kind namespace) → revision_of m.current m.compacted values ≡ Ok revision
+    → IsUtf8 (planned types m call).answer.body → IsReadAsPage wanted (planned types m call).answer.body revision (page_of (collection_of t kind namespace) values (state_at m.changes revision))
+list_read say read wanted types m call t kind namespace values revision is lists asks at text =
+    let of = collection_of t kind namespace in
     let history : IsHistory m = whole_is is.first m is.whole in
-    let page = page_text t call values revision m in
-    let same : (planned types m call).answer.body ≡ page = ap (λ (p : Plan). p.answer.body) (page_planned types m call t values lists revision at) in
+    let page = page_text of values revision m in
+    let same : (planned types m call).answer.body ≡ page = ap (λ (p : Plan). p.answer.body) (page_planned types m call t kind namespace values lists revision at) in
     let found = read wanted of values m.current m.compacted (state_at m.changes) page asks
-    (λ r low high. machine_keeps say types m t call.target.kind call.target.namespace r is lists.served) history.low history.high
-    (text_is types m call t values lists revision at) (subst IsUtf8 same text) in
+    (λ r low high. machine_keeps say types m t kind namespace r is lists.served) history.low history.high
+    (text_is types m call t kind namespace values lists revision at) (subst IsUtf8 same text) in
     let own : found.0 ≡ revision = ap revision_or_zero (sym found.1 ∙ at) in
     subst (λ body. IsReadAsPage wanted body revision (page_of of values (state_at m.changes revision))) (sym same)
     (subst (λ r. IsReadAsPage wanted page r (page_of of values (state_at m.changes r))) own found.2)

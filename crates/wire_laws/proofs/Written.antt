@@ -1,9 +1,8 @@
 -- Each reply that a hub writes is one that its client reads: its status, what it allows, and how long it is.
-use Rattle.std.proofs.Common.{arith, ◌≡◌, ℕ, suc, ◌≤◌, Bool, true, false, List, length, take, drop, Option, None, Some, Result, Ok, Err, refl, sym, subst, inl, inr}
+use Rattle.std.proofs.Common.{arith, ◌≡◌, ℕ, suc, ◌≤◌, Bool, true, false, List, [], ◌∷◌, length, take, drop, Option, None, Some, Result, Ok, Err, refl, sym, subst, inl, inr}
 use Rattle.std.proofs.lemmas.Bool.{leb-true}
 use Rattle.std.specs.Fmt.{digits}
-use Rattle.std.specs.Str.{bytes_eq}
-use Rattle.std.specs.Prelude.{◌==◌, codes, if◌then◌else◌, nat_le, nat_lt, option_and_then, slice_get, ⊤}
+use Rattle.std.specs.Prelude.{◌==◌, codes, if◌then◌else◌, nat_le, nat_lt, slice_get, ⊤}
 use Rattle.http.specs.StatusCode.{IsStatusCode}
 use Rattle.httparse.specs.Grammar.{RequestHead, is_value_byte}
 use Rattle.serde_json.proofs.OnLiterals.{serde_json_on_literals}
@@ -15,16 +14,21 @@ use Rattle.objects.specs.declared.manager.Subresource.TheVariants as subresource
 use Rattle.objects.specs.Owners.{apply_operation}
 use Rattle.ownership.specs.Sides.{own_part}
 use Rattle.ownership.specs.Sameness.{same_state}
+use Rattle.api_types.specs.Profiles.{is_discovered}
+use Rattle.api_types.specs.Subresources.{is_apart}
 use Rattle.api_types.specs.TypesFile.{ServedShape}
 use Rattle.api_request.specs.declared.method.Method.{Method}
 use Rattle.api_request.specs.declared.method.Method.TheVariants as method
+use Rattle.api_request.specs.declared.verb.Verb.{Verb}
+use Rattle.api_request.specs.declared.verb.Verb.TheVariants as verb
 use Rattle.api_request.specs.declared.reason.Reason.{Reason}
 use Rattle.api_request.specs.declared.reason.Reason.TheVariants as reason
-use Rattle.discovery.specs.Paths.{Document, document_in, text_in}
+use Rattle.discovery.specs.declared.document.Document.{Document}
+use Rattle.discovery.specs.Paths.{document_in, text_in}
 use Rattle.api_request.specs.declared.resource.Resource.{Resource}
 use Rattle.api_request.specs.declared.resource.Resource.TheVariants as resource
-use Rattle.api_request.specs.Admit.{RequestInfo, admitted, allowed, document_admitted, document_target, not_admitted, method_admitted, method_named, method_served, path_admitted, place_of, accepts_media, target_at}
-use Rattle.api_request.specs.Calls.{Answer, Call, Denied, Plan, Scope, Target, of_all, of_namespace, of_object, scope_of}
+use Rattle.api_request.specs.Admit.{RequestInfo, admitted, allowed, document_admitted, method_admitted, method_named, method_served, path_admitted, place_of, target_at, document_got, verb_admitted, verb_asked}
+use Rattle.api_request.specs.Calls.{Answer, Call, Denied, Plan, Scope, Target, of_all, of_namespace, of_object, only_key, of_objects, of_document, type_at}
 use Rattle.lists.specs.declared.refusal.Refusal.{Refusal as ListRefusal}
 use Rattle.lists.specs.Body.{Collection}
 use Rattle.lists.specs.Lists.{list_of}
@@ -36,7 +40,7 @@ use Rattle.params.specs.declared.params.Asked.TheVariants as asked
 use Rattle.api_validation.specs.Envelope.{api_version_of}
 use Rattle.api_request.specs.Validated as validated
 use Rattle.api_request.specs.Validated.{Validated}
-use Rattle.history.specs.History.{Change, History, Key, Object, Objects, current_objects}
+use Rattle.history.specs.History.{History, Key, Object, Objects, current_objects}
 use Rattle.verbs.specs.Machine.{no_state, state_of_existing, decoded_state}
 use Rattle.api_validation.specs.Naming.{labels_and_annotations_validated_by, names_validated}
 use Rattle.api_validation.specs.Options.{options_validated}
@@ -184,20 +188,29 @@ at_readable bytes None head is =
 at_readable bytes (Some n) head (inl (h, reads, is)) = subst (λ (x : HeadDecision). Readable (Request × List ℕ) x) (sym is) (validated_readable h (drop n bytes))
 at_readable bytes (Some n) head (inr (none, is)) = subst (λ (x : HeadDecision). Readable (Request × List ℕ) x) (sym is) (no bad_head)
 
+verb_readable : (place : RequestInfo) (v : Option Verb) → ReadableResult Target (verb_admitted place v)
+verb_readable place None = err _ media_readable
+verb_readable place (Some v) = ok (target_at place v)
+
 method_readable : (place : RequestInfo) (m : Option Method) (media : Option (List ℕ)) → ReadableResult Target (method_admitted place m media)
 method_readable place None media = err _ (record { allow = allowed_readable place.resource; short = method_short })
-method_readable place (Some m) media =
-    if_result (accepts_media m media) (Ok (target_at place m)) (not_admitted reason.UnsupportedMediaType (codes "media type not served") None) (ok (target_at place m)) (err _ media_readable)
+method_readable place (Some m) media = verb_readable place (verb_asked m media)
 
-document_readable : (o : Option Document) (method path : List ℕ) → ReadableResult Target (document_admitted o method path)
-document_readable None method path = err _ no_path_readable
-document_readable (Some document) method path =
-    if_result (bytes_eq method (codes "GET")) (Ok (document_target path)) (not_admitted reason.MethodNotAllowed (codes "method not served here") (Some (codes "GET"))) (ok (document_target path))
-    (err _ (record { allow = allowed_readable resource.AllNamespaces; short = method_short }))
+got_readable : (document : Document) (m : Option Method) → ReadableResult Target (document_got document m)
+got_readable document None = err _ (record { allow = allowed_readable resource.AllNamespaces; short = method_short })
+got_readable document (Some method.Get) = ok (of_document document)
+got_readable document (Some method.Post) = err _ (record { allow = allowed_readable resource.AllNamespaces; short = method_short })
+got_readable document (Some method.Put) = err _ (record { allow = allowed_readable resource.AllNamespaces; short = method_short })
+got_readable document (Some method.Patch) = err _ (record { allow = allowed_readable resource.AllNamespaces; short = method_short })
+got_readable document (Some method.Delete) = err _ (record { allow = allowed_readable resource.AllNamespaces; short = method_short })
 
-path_readable : (types : List ServedShape) (o : Option RequestInfo) (method path : List ℕ) (media : Option (List ℕ)) → ReadableResult Target (path_admitted types o method path media)
-path_readable types None method path media = document_readable (document_in types path) method path
-path_readable types (Some place) method path media = method_readable place (method_served place.resource (method_named method)) media
+document_readable : (o : Option Document) (m : Option Method) → ReadableResult Target (document_admitted o m)
+document_readable None m = err _ no_path_readable
+document_readable (Some document) m = got_readable document m
+
+path_readable : (types : List ServedShape) (o : Option RequestInfo) (m : Option Method) (path : List ℕ) (media : Option (List ℕ)) → ReadableResult Target (path_admitted types o m path media)
+path_readable types None m path media = document_readable (document_in types path) m
+path_readable types (Some place) m path media = method_readable place (method_served place.resource m) media
 
 sized_readable : (n : ℕ) → ReadableResult (Option ℕ) (sized n)
 sized_readable n = if_result (nat_lt max_body n) (Err (as_denied body_too_large)) (Ok (Some n)) (err _ (refusal_readable body_too_large)) (ok (Some n))
@@ -247,9 +260,9 @@ with_readable r target (accepted value) is = yes _
 
 call_readable : (types : List ServedShape) (r : Request) (rest : List ℕ) → Readable Call (call_in types r rest)
 call_readable types r rest =
-    let target = admitted types r.method (path_of r.request_target) (checked_media r) in
+    let target = admitted types (method_named r.method) (path_of r.request_target) (checked_media r) in
     then_readable (decided_by target) (λ t. call_with r t (body_in r rest))
-    (decided_readable target (path_readable types (place_of types (path_of r.request_target)) r.method (path_of r.request_target) (checked_media r)))
+    (decided_readable target (path_readable types (place_of types (path_of r.request_target)) (method_named r.method) (path_of r.request_target) (checked_media r)))
     (λ t. with_readable r t (body_in r rest) (body_readable r rest))
 
 pub asked_readable : (types : List ServedShape) (bytes : List ℕ) (d : Denied) → Asks types bytes (refused d) → IsReadable d
@@ -282,7 +295,7 @@ stored_fine : (body : Data) (current : ℕ) (k : Key) (status : ℕ) → IsStatu
 stored_fine body current k status is =
     let plan : Plan = record {
       answer = record { status = status; body = compact_text body; watch = None };
-      change = Some (record { revision = suc current; key = k; body = Some (compact_text body) });
+      changes = record { revision = suc current; key = k; body = Some (compact_text body) } ∷ [];
     } in
     let left : Unit {0} → Validated Plan = λ u. validated.and_then (step.revisions_left current) (λ v. Ok plan) in
     checked (size_validated body) left (λ u. checked (step.revisions_left current) (λ v. Ok plan) (λ v. record { is = is }))
@@ -295,7 +308,7 @@ over_fine t current k (Some o) s =
 
 applied_fine : (t : ServedShape) (current : ℕ) (k : Key) (existing : Option Object) (intent : step.Intent) → IsFine (step.applied_over t current k existing intent)
 applied_fine t current k existing intent =
-    let owned = step.ownership_validated (api_version_of t) (state_of_existing t existing) (own_part intent.subresource intent.content) (step.manager_for apply_operation intent) intent.is_forced in
+    let owned = step.ownership_validated (api_version_of t) (state_of_existing t existing) (own_part (is_apart t) intent.subresource intent.content) (step.manager_for apply_operation intent) intent.is_forced in
     let stored : Unit {0} → Validated Plan = λ u. validated.and_then owned (step.plan_put_unless_same t current k existing) in
     checked (step.require_object_of_status intent.subresource t k.name existing) (λ u. validated.and_then (step.version_checked intent.version existing) stored)
     (λ u. checked (step.version_checked intent.version existing) stored
@@ -306,7 +319,7 @@ fine p is = record { is = is }
 
 apply_fine : (by : Subresource) (t : ServedShape) (current : ℕ) (existing : Option Object) (k : Key) (query : List ℕ) (body : Data) → IsFine (step.apply_plan by t current existing k query body)
 apply_fine by t current existing k query body =
-    checked (step.intent_of (step.at_path t k method.Patch by) asked.Apply query body)
+    checked (step.intent_of (step.at_path t k verb.Apply by) asked.Apply query body)
     (λ intent. validated.and_then (names_validated intent.subresource k.namespace k.name intent.rest) (λ u. step.applied_over t current k existing intent))
     (λ intent. checked (names_validated intent.subresource k.namespace k.name intent.rest) (λ u. step.applied_over t current k existing intent)
     (λ u. applied_fine t current k existing intent))
@@ -320,7 +333,7 @@ get_fine t current existing k query =
 
 created_fine : (t : ServedShape) (current : ℕ) (existing : Option Object) (k : Key) (intent : step.Intent) → IsFine (step.created_as t current existing k intent)
 created_fine t current existing k intent =
-    let new = step.updated_by intent no_state in
+    let new = step.updated_by t intent no_state in
     checked (names_validated intent.subresource k.namespace k.name intent.rest)
     (λ u. validated.and_then (step.require_absent t k.name existing) (λ v. step.plan_put t current k 201 new))
     (λ u. checked (step.require_absent t k.name existing) (λ v. step.plan_put t current k 201 new)
@@ -334,13 +347,13 @@ create_fine t s kind namespace query body =
 updated_fine : (t : ServedShape) (current : ℕ) (k : Key) (existing : Option Object) (intent : step.Intent) → IsFine (step.updated_over t current k existing intent)
 updated_fine t current k existing intent =
     checked (step.require_found t k.name existing)
-    (λ o. validated.and_then (step.version_checked intent.version existing) (λ u. step.plan_put_unless_same t current k existing (step.updated_by intent (decoded_state t.shape o.body))))
-    (λ o. checked (step.version_checked intent.version existing) (λ u. step.plan_put_unless_same t current k existing (step.updated_by intent (decoded_state t.shape o.body)))
-    (λ u. over_fine t current k existing (step.updated_by intent (decoded_state t.shape o.body))))
+    (λ o. validated.and_then (step.version_checked intent.version existing) (λ u. step.plan_put_unless_same t current k existing (step.updated_by t intent (decoded_state t.shape o.body))))
+    (λ o. checked (step.version_checked intent.version existing) (λ u. step.plan_put_unless_same t current k existing (step.updated_by t intent (decoded_state t.shape o.body)))
+    (λ u. over_fine t current k existing (step.updated_by t intent (decoded_state t.shape o.body))))
 
 update_fine : (by : Subresource) (t : ServedShape) (current : ℕ) (existing : Option Object) (k : Key) (query : List ℕ) (body : Data) → IsFine (step.update_plan by t current existing k query body)
 update_fine by t current existing k query body =
-    checked (step.intent_of (step.at_path t k method.Put by) asked.Put query body)
+    checked (step.intent_of (step.at_path t k verb.Update by) asked.Put query body)
     (λ intent. validated.and_then (labels_and_annotations_validated_by intent.subresource intent.rest) (λ u. step.updated_over t current k existing intent))
     (λ intent. checked (labels_and_annotations_validated_by intent.subresource intent.rest) (λ u. step.updated_over t current k existing intent)
     (λ u. updated_fine t current k existing intent))
@@ -354,20 +367,20 @@ deleted_fine t current k existing version =
 
 delete_fine : (t : ServedShape) (current : ℕ) (existing : Option Object) (k : Key) (query : List ℕ) (body : Option Data) → IsFine (step.delete_plan t current existing k query body)
 delete_fine t current existing k query body =
-    checked (options_validated t.is_discovered body) (λ version. validated.and_then (parameters_for t asked.Delete query) (λ values. step.deleted_over t current k existing version))
+    checked (options_validated (is_discovered t.profile) body) (λ version. validated.and_then (parameters_for t asked.Delete query) (λ values. step.deleted_over t current k existing version))
     (λ version. checked (parameters_for t asked.Delete query) (λ values. step.deleted_over t current k existing version)
     (λ values. deleted_fine t current k existing version))
 
 with_body : (o : Option Data) (validate : Data → Validated Plan) → ((body : Data) → IsFine (validate body)) → IsFine (validated.and_then (step.body_of o) validate)
 with_body o validate is = checked (step.body_of o) validate is
 
-object_fine : (m : Method) (by : Subresource) (t : ServedShape) (current : ℕ) (existing : Option Object) (k : Key) (query : List ℕ) (o : Option Data) → IsFine (step.dispatch_object m by t current existing k query o)
-object_fine method.Get by t current existing k query o = get_fine t current existing k query
-object_fine method.Post by t current existing k query o = denied _
-object_fine method.Put by t current existing k query o = with_body o (step.update_plan by t current existing k query) (update_fine by t current existing k query)
-object_fine method.Patch by t current existing k query o = with_body o (step.apply_plan by t current existing k query) (apply_fine by t current existing k query)
-object_fine method.Delete subresource.Main t current existing k query o = delete_fine t current existing k query o
-object_fine method.Delete subresource.Status t current existing k query o = denied _
+object_fine : (v : Verb) (by : Subresource) (t : ServedShape) (current : ℕ) (existing : Option Object) (k : Key) (query : List ℕ) (o : Option Data) → IsFine (step.dispatch_object v by t current existing k query o)
+object_fine verb.Get by t current existing k query o = get_fine t current existing k query
+object_fine verb.Create by t current existing k query o = denied _
+object_fine verb.Update by t current existing k query o = with_body o (step.update_plan by t current existing k query) (update_fine by t current existing k query)
+object_fine verb.Apply by t current existing k query o = with_body o (step.apply_plan by t current existing k query) (apply_fine by t current existing k query)
+object_fine verb.Delete subresource.Main t current existing k query o = delete_fine t current existing k query o
+object_fine verb.Delete subresource.Status t current existing k query o = denied _
 
 -- ---- lists and watches
 
@@ -397,51 +410,53 @@ list_fine t s kind namespace query =
     checked (parameters_for t asked.List query) (λ values. step.list_answered (step.shown_by s of values values.watch))
     (λ values. answered (step.shown_by s of values values.watch) (shown s of values values.watch))
 
-all_fine : (m : Method) (t : ServedShape) (s : HistoryWindow) (call : Call) → IsFine (step.dispatch_scope of_all m t s call)
-all_fine method.Get t s call = list_fine t s call.target.kind None call.query
-all_fine method.Post t s call = denied _
-all_fine method.Put t s call = denied _
-all_fine method.Patch t s call = denied _
-all_fine method.Delete t s call = denied _
+all_fine : (v : Verb) (t : ServedShape) (kind : ℕ) (s : HistoryWindow) (call : Call) → IsFine (step.dispatch_scope of_all v t kind s call)
+all_fine verb.Get t kind s call = list_fine t s kind None call.query
+all_fine verb.Create t kind s call = denied _
+all_fine verb.Update t kind s call = denied _
+all_fine verb.Apply t kind s call = denied _
+all_fine verb.Delete t kind s call = denied _
 
-collection_fine : (m : Method) (t : ServedShape) (s : HistoryWindow) (call : Call) (namespace : List ℕ) → IsFine (step.dispatch_scope (of_namespace namespace) m t s call)
-collection_fine method.Post t s call namespace = with_body call.body (step.create_plan t s call.target.kind namespace call.query) (create_fine t s call.target.kind namespace call.query)
-collection_fine method.Get t s call namespace = list_fine t s call.target.kind (Some namespace) call.query
-collection_fine method.Put t s call namespace = denied _
-collection_fine method.Patch t s call namespace = denied _
-collection_fine method.Delete t s call namespace = denied _
+collection_fine : (v : Verb) (t : ServedShape) (kind : ℕ) (s : HistoryWindow) (call : Call) (namespace : List ℕ) → IsFine (step.dispatch_scope (of_namespace namespace) v t kind s call)
+collection_fine verb.Create t kind s call namespace = with_body call.body (step.create_plan t s kind namespace call.query) (create_fine t s kind namespace call.query)
+collection_fine verb.Get t kind s call namespace = list_fine t s kind (Some namespace) call.query
+collection_fine verb.Update t kind s call namespace = denied _
+collection_fine verb.Apply t kind s call namespace = denied _
+collection_fine verb.Delete t kind s call namespace = denied _
 
-by_fine : (scope : Scope) (m : Method) (t : ServedShape) (s : HistoryWindow) (call : Call) → IsFine (step.dispatch_scope scope m t s call)
-by_fine of_all m t s call = all_fine m t s call
-by_fine (of_namespace namespace) m t s call = collection_fine m t s call namespace
-by_fine (of_object namespace name by) m t s call =
-    let k = step.key_at call namespace name in
-    object_fine m by t s.current (step.object_at s k) k call.query call.body
+by_fine : (scope : Scope) (v : Verb) (t : ServedShape) (kind : ℕ) (s : HistoryWindow) (call : Call) → IsFine (step.dispatch_scope scope v t kind s call)
+by_fine of_all v t kind s call = all_fine v t kind s call
+by_fine (of_namespace namespace) v t kind s call = collection_fine v t kind s call namespace
+by_fine (of_object namespace name by) v t kind s call =
+    let k = step.key_at kind namespace name in
+    object_fine v by t s.current (step.object_at s k) k call.query call.body
+
+type_fine : (found : Option ServedShape) (kind : ℕ) (scope : Scope) (v : Verb) (s : HistoryWindow) (call : Call) → IsFine (step.dispatch_type found kind scope v s call)
+type_fine None kind scope v s call = denied _
+type_fine (Some t) kind scope v s call = by_fine scope v t kind s call
 
 document_fine : (text : Option (List ℕ)) → IsFine (step.document_shown text)
 document_fine None = denied _
 document_fine (Some text) = fine _ (omega arith, omega arith)
 
-at_fine : (types : List ServedShape) (found : Option ServedShape) (scope : Option Scope) (s : HistoryWindow) (call : Call) → IsFine (step.dispatch_type types found scope s call)
-at_fine types None scope s call = denied _
-at_fine types (Some t) None s call = document_fine (option_and_then (text_in types) call.target.name)
-at_fine types (Some t) (Some scope) s call = by_fine scope call.target.method t s call
+target_fine : (types : List ServedShape) (target : Target) (s : HistoryWindow) (call : Call) → IsFine (step.dispatch_target types target s call)
+target_fine types (of_objects kind scope v) s call = type_fine (slice_get types kind) kind scope v s call
+target_fine types (of_document document) s call = document_fine (text_in types document)
 
 plan_fine : (j : Validated Plan) → IsFine j → IsStatusCode (step.plan_for j).answer.status
 plan_fine (Ok p) is = is.is
 plan_fine (Err d) is = code_is d.reason
 
 -- a dry run has the status of the call
-tried_status : (objects : Objects) (change : Option Change) (answer : Answer) → IsStatusCode answer.status → IsStatusCode (answer_tried objects change answer).status
+tried_status : (objects : Objects) (changed : Option Key) (answer : Answer) → IsStatusCode answer.status → IsStatusCode (answer_tried objects changed answer).status
 tried_status objects None answer is = is
-tried_status objects (Some c) answer is = is
+tried_status objects (Some k) answer is = is
 
 run_status : (is_dry : Bool) (objects : Objects) (p : Plan) → IsStatusCode p.answer.status → IsStatusCode (run_by is_dry objects p).answer.status
-run_status true objects p is = tried_status objects p.change p.answer is
+run_status true objects p is = tried_status objects (only_key p.changes) p.answer is
 run_status false objects p is = is
 
 pub status_is : (types : List ServedShape) (m : History) (call : Call) → IsStatusCode (step.planned types m call).answer.status
 status_is types m call =
-    run_status (is_dry_run (slice_get types call.target.kind) call) (current_objects m) (step.plan_for (step.dispatch_call types (from_history m) call))
-    (plan_fine (step.dispatch_call types (from_history m) call)
-    (at_fine types (slice_get types call.target.kind) (scope_of call.target.namespace call.target.name call.target.status) (from_history m) call))
+    run_status (is_dry_run (type_at types call.target) call) (current_objects m) (step.plan_for (step.dispatch_call types (from_history m) call))
+    (plan_fine (step.dispatch_call types (from_history m) call) (target_fine types call.target (from_history m) call))

@@ -4,7 +4,7 @@ use Rattle.std.specs.List.{starts_with}
 use Rattle.httparse.specs.Grammar.{AllPass, IsToken, is_uri_byte, is_value_byte, trim_ows}
 use Rattle.api_types.specs.TypesFile.{ServedShape}
 use Rattle.wire.specs.Heads.{max_head}
-use Rattle.api_request.specs.Admit.{admitted}
+use Rattle.api_request.specs.Admit.{admitted, method_named}
 use Rattle.requests.specs.Asks.{CallDecision}
 use Rattle.requests.specs.Bodies.{json_in, some_json}
 use Rattle.requests.specs.Decision.{accepted, and_then, decided_by}
@@ -54,13 +54,13 @@ said_of method request_target body = record { method = method; request_target = 
 -- what such a request asks by these types, its target a path and a query: its route, its method and its media type are checked, then its body
 abbrev pub asked_with : List ServedShape → List ℕ → List ℕ → List ℕ → List ℕ → List ℕ → CallDecision
 asked_with types method path query media bytes =
-    and_then (decided_by (admitted types method path (Some media)))
+    and_then (decided_by (admitted types (method_named method) path (Some media)))
     (λ target. and_then (some_json (json_in bytes)) (λ body. accepted (record { target = target; query = query; body = body })))
 
 -- the same of a request without a body
 abbrev pub asked_without : List ServedShape → List ℕ → List ℕ → List ℕ → CallDecision
 asked_without types method path query =
-    and_then (decided_by (admitted types method path None)) (λ target. accepted (record { target = target; query = query; body = None }))
+    and_then (decided_by (admitted types (method_named method) path None)) (λ target. accepted (record { target = target; query = query; body = None }))
 
 -- a question mark, which ends the path
 abbrev pub is_question : ℕ → Bool

@@ -22,7 +22,7 @@ ghost use Rattle.requests.specs.ReplyBytes.{reply};
 ghost use Rattle.requests.specs.Replies.{answer_reply, refusal_reply};
 ghost use Rattle.wireclient.specs.Reads.{Items, max_body};
 ghost use Rattle.wireclient.specs.Reply.{end, head, whole};
-ghost use Rattle.wire_laws.specs.Listings.{IsListing, listed_by};
+ghost use Rattle.wire_laws.specs.Listings.{IsListing};
 ghost use Rattle.wire_laws.specs.Printed.{IsAllowed};
 ghost use Rattle.wire_laws.specs.Replied.{reply_sent};
 
@@ -64,9 +64,9 @@ pub fn answers_are_read()
 pub fn lists_are_read()
     ensures kept { (types : List ServedShape) (m : History) (t : ServedShape) (kind : ℕ) (namespace : Option (List ℕ)) (r : ℕ) → IsMachine types m → slice_get types kind ≡ Some t
         → AreKept (collection_of t kind namespace) (state_at m.changes r) }
-    ensures pages { (wanted : Wanted) (types : List ServedShape) (m : History) (call : Call) (t : ServedShape) (values : Values) (revision : ℕ) → IsMachine types m
-        → IsListing types call t values → IsWanted wanted (listed_by t call) → revision_of m.current m.compacted values ≡ Ok revision → IsUtf8 (planned types m call).answer.body
-        → IsReadAsPage wanted (planned types m call).answer.body revision (page_of (listed_by t call) values (state_at m.changes revision)) }
+    ensures pages { (wanted : Wanted) (types : List ServedShape) (m : History) (call : Call) (t : ServedShape) (kind : ℕ) (namespace : Option (List ℕ)) (values : Values) (revision : ℕ) → IsMachine types m
+        → IsListing types call t kind namespace values → IsWanted wanted (collection_of t kind namespace) → revision_of m.current m.compacted values ≡ Ok revision → IsUtf8 (planned types m call).answer.body
+        → IsReadAsPage wanted (planned types m call).answer.body revision (page_of (collection_of t kind namespace) values (state_at m.changes revision)) }
 {
     verbs::texts_say_states();
     line_laws::pages_are_read();

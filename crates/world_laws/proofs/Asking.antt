@@ -12,9 +12,9 @@ use Rattle.params.specs.Query.{Pairs}
 use Rattle.lists.specs.Body.{continued_at}
 use Rattle.lists.specs.TokenLaws.{next_pairs}
 use Rattle.lists.proofs.Tokens.{query_is_read}
-use Rattle.api_request.specs.declared.method.Method.TheVariants.{Get}
-use Rattle.api_request.specs.Admit.{RequestInfo, admitted, path_admitted, place_admitted}
-use Rattle.api_request.specs.Calls.{Call, Target}
+use Rattle.api_request.specs.declared.verb.Verb.TheVariants.{Get}
+use Rattle.api_request.specs.Admit.{RequestInfo, admitted, method_named, path_admitted, place_admitted}
+use Rattle.api_request.specs.Calls.{Call, Target, of_objects, collection_in}
 use Rattle.verbs.specs.Machine.{IsMachine}
 use Rattle.api_validation.specs.Parameters.{read_or_refused}
 use Rattle.wire.specs.Heads.{max_head}
@@ -49,7 +49,7 @@ page_is_low size is = let low : size ≤ 500 = leb-true size 500 (and_parts (nat
 module _ (types : List ServedShape) (task : Task) (is : IsTask types task) where
   -- what is asked of: the objects of the type, in the namespace or in all
   abbrev target_is : Target
-  target_is = record { kind = task.settings.kind; namespace = task.settings.namespace; name = None; status = false; method = Get }
+  target_is = of_objects task.settings.kind (collection_in task.settings.namespace) Get
 
   abbrev call_with : List ℕ → Call
   call_with query = record { target = target_is; query = query; body = None }
@@ -57,12 +57,12 @@ module _ (types : List ServedShape) (task : Task) (is : IsTask types task) where
   place : RequestInfo
   place = record { resource = resource_for task.settings.namespace; kind = task.settings.kind; namespace = task.settings.namespace; name = None }
 
-  got : (namespace : Option (List ℕ)) → place_admitted (record { resource = resource_for namespace; kind = task.settings.kind; namespace = namespace; name = None }) (codes "GET") None ≡ Ok (record target_is { namespace = namespace })
+  got : (namespace : Option (List ℕ)) → place_admitted (record { resource = resource_for namespace; kind = task.settings.kind; namespace = namespace; name = None }) (method_named (codes "GET")) None ≡ Ok (of_objects task.settings.kind (collection_in namespace) Get)
   got None = refl
   got (Some namespace) = refl
 
-  is_admitted : admitted types (codes "GET") (path_of (wanted_by task)) None ≡ Ok target_is
-  is_admitted = ap (λ (o : Option RequestInfo). path_admitted types o (codes "GET") (path_of (wanted_by task)) None) (path_reaches types task is) ∙ got task.settings.namespace
+  is_admitted : admitted types (method_named (codes "GET")) (path_of (wanted_by task)) None ≡ Ok target_is
+  is_admitted = ap (λ (o : Option RequestInfo). path_admitted types o (method_named (codes "GET")) (path_of (wanted_by task)) None) (path_reaches types task is) ∙ got task.settings.namespace
 
   target_visible : (query : List ℕ) → All IsVisible query → All IsVisible (path_of (wanted_by task) ++ 63 ∷ query)
   target_visible query all =
@@ -107,15 +107,10 @@ asks_first types task is =
     let page : ℕ = task.settings.page in
     subst (λ q. AsksFor types (request_with task q) (IsListCall types task None)) (sym (first_query (client_settings task)))
     (asks_for types task is (extend_pairs [] (first_pairs page labels)) (IsListCall types task None) (form_visible [] (first_pairs page labels) (All-nil IsVisible)) (record {
-      lists = record {
-        served = is.served;
-        gets = refl;
-        unnamed = refl;
-        says = ap read_or_refused (first_is_read page labels task.requirements (page_is_low page is.page) is.text is.selector);
-        unwatched = refl;
-      };
-      kind = refl;
-      namespace = refl;
+      served = is.served;
+      gets = refl;
+      says = ap read_or_refused (first_is_read page labels task.requirements (page_is_low page is.page) is.text is.selector);
+      unwatched = refl;
     }))
 
 pub asks_next : (types : List ServedShape) (task : Task) (machine : History) (r : ℕ) (token : List ℕ) (paged_list : List Stored) → IsTask types task → IsMachine types machine
@@ -133,15 +128,10 @@ asks_next types task machine r token paged_list is is_machine come part =
       o,
       behind.1,
       record {
-        lists = record {
-          served = is.served;
-          gets = refl;
-          unnamed = refl;
-          says = ap read_or_refused (query_is_read r page k labels task.requirements behind.3 (page_is_low page is.page) is.text is.selector);
-          unwatched = refl;
-        };
-        kind = refl;
-        namespace = refl;
+        served = is.served;
+        gets = refl;
+        says = ap read_or_refused (query_is_read r page k labels task.requirements behind.3 (page_is_low page is.page) is.text is.selector);
+        unwatched = refl;
       },
     ))
 
@@ -150,14 +140,9 @@ asks_watch types task r is low =
     let labels : List ℕ = task.settings.selector in
     subst (λ q. AsksFor types (request_with task q) (IsWatchCall types task r)) (sym (watch_query_is (client_settings task) r))
     (asks_for types task is (extend_pairs [] (watch_pairs r labels)) (IsWatchCall types task r) (form_visible [] (watch_pairs r labels) (All-nil IsVisible)) (record {
-      watches = record {
-        served = is.served;
-        gets = refl;
-        unnamed = refl;
-        says = ap read_or_refused (watch_is_read r labels task.requirements low is.text is.selector);
-        watches = refl;
-        after = refl;
-      };
-      kind = refl;
-      namespace = refl;
+      served = is.served;
+      gets = refl;
+      says = ap read_or_refused (watch_is_read r labels task.requirements low is.text is.selector);
+      watches = refl;
+      after = refl;
     }))

@@ -39,13 +39,13 @@ use Rattle.line_laws.proofs.SeenBodies.{all_taken}
 use Rattle.api_request.specs.Calls.{Call}
 use Rattle.api_request.specs.Calls as calls
 use Rattle.verbs.specs.Machine.{AreUnicode, IsMachine, IsNamed}
-use Rattle.verbs.specs.Step.{collection_of, list_refusal, planned, refused}
+use Rattle.verbs.specs.Step.{list_refusal, planned, refused}
 use Rattle.requests.specs.Replies.{answer_reply}
 use Rattle.wireclient.specs.Reads.{Items, max_body}
 use Rattle.wireclient.specs.Reply.{ReplyItem, end, head, malformed, whole}
 use Rattle.wireclient.proofs.ReadBack.{length_reads, reply_read as reply_read_back}
 use Rattle.wireclient.proofs.TooLong.{no_length, unframed_read}
-use Rattle.wire_laws.specs.Listings.{listed_by, page_plan}
+use Rattle.wire_laws.specs.Listings.{page_plan}
 use Rattle.wire_laws.proofs.Listings.{list_refused, page_planned}
 use Rattle.wire_laws.proofs.AnyLengths.{IsSentOf, any_reply_read}
 use Rattle.wire_laws.proofs.PrintedReplies.{Reader}
@@ -272,16 +272,11 @@ module _ (types : List ServedShape) (task : Task) (is_task : IsTask types task) 
   -- ---- the answer
 
   module _ (token : Option Token) (call : Call) (asks : IsListCall types task token call) where
-    same_collection : listed_by task.t call ≡ of
-    same_collection = ap (λ kind. collection_of task.t kind call.target.namespace) asks.kind ∙ ap (collection_of task.t task.settings.kind) asks.namespace
-
     abbrev values : Values
     values = page_values task token
 
     paged : (r : ℕ) → revision_of machine.current machine.compacted values ≡ Ok r → planned types machine call ≡ page_plan (list_text of r (page_at token r))
-    paged r at =
-        page_planned types machine call task.t values asks.lists r at
-        ∙ ap (λ c. page_plan (list_text c r (page_of c values (state_at machine.changes r)))) same_collection
+    paged r at = page_planned types machine call task.t task.settings.kind task.settings.namespace values asks r at
 
     pub answer_read : (r : ℕ) → revision_of machine.current machine.compacted values ≡ Ok r → r ≤ machine.current → IsReadAsPageIfUtf8 wanted (planned types machine call).answer.body r (page_at token r)
     answer_read r at high =
@@ -304,7 +299,7 @@ module _ (types : List ServedShape) (task : Task) (is_task : IsTask types task) 
         refused_by : (refusal : Refusal) → ((refused (list_refusal refusal)).answer.status == 200) ≡ false → revision_of machine.current machine.compacted values ≡ Err refusal → AnswerGoes m paged_list (planned types machine call)
         refused_by refusal other at =
             let answer : calls.Answer = (refused (list_refusal refusal)).answer in
-            subst (AnswerGoes m paged_list) (sym (list_refused types machine call task.t values asks.lists refusal at)) (refl, refused_goes server wanted m paged_list answer.status answer.body other)
+            subst (AnswerGoes m paged_list) (sym (list_refused types machine call task.t task.settings.kind task.settings.namespace values asks refusal at)) (refl, refused_goes server wanted m paged_list answer.status answer.body other)
 
         by_revision : (answer : Result ℕ Refusal) → revision_of machine.current machine.compacted values ≡ answer → AnswerGoes m paged_list (planned types machine call)
         by_revision (Ok r) at =

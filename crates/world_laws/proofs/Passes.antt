@@ -46,10 +46,8 @@ abbrev pub watch_values : Task → ℕ → Values
 watch_values task r = record no_values { version = Some r; selector = task.requirements; watch = Some task_watch }
 
 -- the call asks for a watch of the task's list from the revision on
-pub record IsWatchCall (types : List ServedShape) (task : Task) (r : ℕ) (call : Call) : Type 0 where
-  pub watches : IsWatching types call task.t (watch_values task r) task_watch r
-  pub kind : call.target.kind ≡ task.settings.kind
-  pub namespace : call.target.namespace ≡ task.settings.namespace
+abbrev pub IsWatchCall : List ServedShape → Task → ℕ → Call → Type 0
+IsWatchCall types task r call = IsWatching types call task.t task.settings.kind task.settings.namespace (watch_values task r) task_watch r
 
 -- ---- what answers it
 

@@ -123,7 +123,7 @@ module _ (types : List ServedShape) (task : Task) (is : IsTask types task) where
 
   -- it is of the type, and in the namespace, if one is asked for
   pub is_own : (x : SeenChange) → IsSeenText types (selection task) x → is_within task.settings.kind task.settings.namespace x.key ≡ true
-  is_own x text = (and_parts (is_within task.settings.kind task.settings.namespace x.key) (selects task.requirements (attributes_of x.object.body)) text.is_wanted).0
+  is_own x text = (and_parts (is_within task.settings.kind task.settings.namespace x.key) (selects task.requirements (attributes_of x.key x.object.body)) text.is_wanted).0
 
   pub line_read : (x : SeenChange) → IsSeenText types (selection task) x → x.object.revision ≤ max_version → IsReadLine wanted x.kind x.key x.object
   line_read x text low = read_as x.key x.object (is_own x text) low x.kind text.says

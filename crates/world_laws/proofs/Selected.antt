@@ -30,7 +30,7 @@ pub selection_read : (wanted : Wanted) (of : Collection) (requirements : List Re
     → AreRead wanted of.kind (selected (selection_of of.kind of.namespace requirements) s)
 selection_read wanted of requirements s is kept k o there =
     let represents = selected_from (selection_of of.kind of.namespace requirements) s k o there in
-    let within : is_within of.kind of.namespace k ≡ true = (and_parts (is_within of.kind of.namespace k) (selects requirements (attributes_of o.body)) represents.1).0 in
+    let within : is_within of.kind of.namespace k ≡ true = (and_parts (is_within of.kind of.namespace k) (selects requirements (attributes_of k o.body)) represents.1).0 in
     let own : k.kind ≡ of.kind = eqb-true k.kind of.kind (and_parts (k.kind == of.kind) (is_in_namespace of.namespace k) within).0 in
     let fits = one_fits wanted of is (k, o) (λ same. kept k o same represents.0) within in
     (own, (taken_as wanted of is k o fits.0 fits.1).0, one_read wanted of is k o fits.0 fits.1)

@@ -47,7 +47,7 @@ use Rattle.wire_laws.proofs.AnyLengths.{IsSentOf, any_reply_read}
 use Rattle.wire_laws.proofs.Written.{status_is}
 use Rattle.world_laws.proofs.Leading.{lines_lead}
 use Rattle.world_laws.proofs.Mirror.{mirrored, server_of}
-use Rattle.world_laws.proofs.Passes.{IsTaskWatch, IsWatchCall, TurnComes, WatchOpens, WatchRefused, task_watch, watch_from, watch_values}
+use Rattle.world_laws.proofs.Passes.{IsTaskWatch, IsWatchCall, TurnComes, WatchOpens, WatchRefused, task_watch, watch_values}
 use Rattle.world_laws.proofs.SeenLines.{line_text, plain_lines, with_feeds}
 use Rattle.world_laws.proofs.SeenTexts.{IsSeenText, seen_are_texts}
 use Rattle.world_laws.proofs.TaskObjects.{type_utf8, version_utf8, wants}
@@ -58,11 +58,10 @@ use Rattle.world_laws.specs.Tasks.{IsTask, Task, selected_at, selection, wanted_
 module _ (types : List ServedShape) (task : Task) (machine : History) (r : ℕ) (call : Call) (begun : 1 ≤ r) (asks : IsWatchCall types task r call) where
   opens : machine.compacted ≤ r → WatchOpens types task machine r call
   opens low =
-      let plan : planned types machine call ≡ watch_plan (watch_after call (watch_values task r) task_watch r) = watch_opens types machine call task.t (watch_values task r) task_watch r asks.watches begun low in
+      let plan : planned types machine call ≡ watch_plan (watch_after task.settings.kind task.settings.namespace (watch_values task r) task_watch r) = watch_opens types machine call task.t task.settings.kind task.settings.namespace (watch_values task r) task_watch r asks begun low in
       record {
         status = ap (λ (p : Plan). p.answer.status) plan;
-        watch = ap (λ (p : Plan). p.answer.watch) plan
-            ∙ ap₂ (λ (kind : ℕ) (namespace : Option (List ℕ)). Some (record (watch_from task r) { kind = kind; namespace = namespace })) asks.kind asks.namespace;
+        watch = ap (λ (p : Plan). p.answer.watch) plan;
       }
 
   -- an answer other than 200 is no reason to go on
@@ -83,7 +82,7 @@ module _ (types : List ServedShape) (task : Task) (machine : History) (r : ℕ) 
   refuses : r < machine.compacted → WatchRefused types task machine r call
   refuses past =
       let answer : Answer = (planned types machine call).answer in
-      let plan : planned types machine call ≡ refused (list_refusal (Expired r machine.compacted)) = watch_expired types machine call task.t (watch_values task r) task_watch r asks.watches begun past in
+      let plan : planned types machine call ≡ refused (list_refusal (Expired r machine.compacted)) = watch_expired types machine call task.t task.settings.kind task.settings.namespace (watch_values task r) task_watch r asks begun past in
       let sent = any_reply_read (record { reply = reply_read_back; counted = length_reads; none = unframed_read; uncounted = no_length }) answer.status None answer.body (status_is types machine call) (tt {0}) in
       record {
         unwatched = ap (λ (p : Plan). p.answer.watch) plan;

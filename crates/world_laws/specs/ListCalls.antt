@@ -21,10 +21,8 @@ abbrev pub page_values : Task → Option Token → Values
 page_values task token = record no_values { limit = task.settings.page; selector = task.requirements; token = token }
 
 -- it lists the objects of the task's type, in its namespace or in all, and asks for such a page of them
-pub record IsListCall (types : List ServedShape) (task : Task) (token : Option Token) (call : Call) : Type 0 where
-  pub lists : IsListing types call task.t (page_values task token)
-  pub kind : call.target.kind ≡ task.settings.kind
-  pub namespace : call.target.namespace ≡ task.settings.namespace
+abbrev pub IsListCall : List ServedShape → Task → Option Token → Call → Type 0
+IsListCall types task token call = IsListing types call task.t task.settings.kind task.settings.namespace (page_values task token)
 
 -- it asks for the next page of the list at the revision, after the last of these objects
 abbrev pub IsNextCall : List ServedShape → Task → ℕ → List Stored → Call → Type 0

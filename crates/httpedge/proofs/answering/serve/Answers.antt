@@ -10,7 +10,7 @@ use Rattle.httpedge.proofs.answering.serve.Goals as goal
 pub returns-clause-ok : goal.returns-clause-ok
 returns-clause-ok c = λ types m represents.
     subst (λ (p : Plan). (c.in_ok-bytes.bytes.items ≡ answer_bytes p.answer (plan_of c.in_ok-plan.plan).answer.watch) × ((plan_of c.in_ok-plan.plan).answer.status ≡ p.answer.status) × ((plan_of c.in_ok-plan.plan).answer.watch ≡ p.answer.watch)
-    × ApiRepresents c.commit.new.self types (after m p.change))
+    × ApiRepresents c.commit.new.self types (after m p.changes))
     (c.in_ok-plan.ensures.planned types m represents)
     (c.in_ok-bytes.ensures, refl, refl, c.in_ok-commit.ensures.ok types m (c.plan.ensures.same types m represents) (c.in_ok-plan.ensures.next types m represents))
 
