@@ -24,12 +24,12 @@ error_is (Err x) e P is p = subst P (sym is) p
 
 -- a creation whose plan is answered as one, and whose change is made
 pub creates_by : (types : List ServedShape) (m : History) (line : List ℕ) (call : Call) (plan : Plan) (new : Api) → IsCreation types line call → plan ≡ planned types m call
-    → plan.answer.status ≡ 201 → ApiRepresents new types (after m plan.change) → Creates types m line new
+    → plan.answer.status ≡ 201 → ApiRepresents new types (after m plan.changes) → Creates types m line new
 creates_by types m line call plan new creation is created stands = record {
   call = call;
   creation = creation;
   created = ap (λ (p : Plan). p.answer.status) (sym is) ∙ created;
-  stands = subst (λ (p : Plan). ApiRepresents new types (after m p.change)) is stands;
+  stands = subst (λ (p : Plan). ApiRepresents new types (after m p.changes)) is stands;
 }
 
 -- ---- calls in turn, and one more

@@ -9,6 +9,7 @@ use Rattle.api_types.specs.TypesFile.{ServedShape}
 use Rattle.history.specs.History.{History}
 use Rattle.api_request.specs.Admit.{admitted}
 use Rattle.api_request.specs.Calls.{Call}
+use Rattle.api_request.specs.declared.method.Method.TheVariants.{Post}
 use Rattle.api_request.specs.declared.admitting.AdmitFault.{AdmitFault}
 use Rattle.api_request.specs.declared.admitting.AdmitFault.TheVariants as admit_fault
 use Rattle.requests.specs.Bodies.{max_body}
@@ -45,7 +46,7 @@ pub record IsCreation (types : List ServedShape) (line : List ℕ) (call : Call)
   pub reads : read_json line ≡ Some value
   pub path : List ℕ
   pub leads : IsPathFor value path
-  pub target : admitted types (codes "POST") path None ≡ Ok call.target
+  pub target : admitted types (Some Post) path None ≡ Ok call.target
   pub query : call.query ≡ []
   pub body : call.body ≡ Some value
 

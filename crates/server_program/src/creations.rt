@@ -10,7 +10,7 @@ ghost use Rattle.server_program.specs.Creations.{Creates, CreatesAll, EndsAtLine
 
 use crate::fault::ServerFault;
 use crate::object_fault::ObjectFault;
-use api_request::{Body, CREATED, Call};
+use api_request::{Body, CREATED, Call, Method};
 use api_types::Types;
 use json_values::{members_at, read_text, text_at};
 use programs::unread_path;
@@ -76,7 +76,7 @@ fn creation(alloc: Global, api: &Api, line: &str) -> Result<Call, ObjectFault>
     }
     let body = Body::read(alloc, line.as_bytes())?;
     let path = path_of(alloc, api.types(), body.value())?;
-    let target = api.admit("POST", path.as_str(), None)?;
+    let target = api.admit(Some(Method::Post), path.as_str(), None)?;
     Ok(Call {
         target,
         query: Vec::new(alloc),

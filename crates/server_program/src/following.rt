@@ -2,6 +2,7 @@
 //! this declares are served from then on. Which change of types is lawful stands in `api_types`.
 
 use crate::standard_error::StandardError;
+use api_types::Profile;
 use httpedge::HubFault;
 use observing::Observer;
 use polling::Server;
@@ -19,6 +20,7 @@ const LOOKS: u64 = 1000;
 #[derive(Drop)]
 pub struct FollowedFile<'a, R> {
     rt: &'a R,
+    profile: Profile,
     path: &'a str,
     text: String,
     looked: Instant,
@@ -51,10 +53,17 @@ impl fmt::Display for OfTypes<'_> {
 }
 
 impl<'a, R: Files + Net + Clock + Eprint + AllocGlobal> FollowedFile<'a, R> {
-    /// The file of this text.
-    pub fn new(rt: &'a R, path: &'a str, text: String, now: Instant) -> FollowedFile<'a, R> {
+    /// The file of this text, which is read for the profile.
+    pub fn new(
+        rt: &'a R,
+        profile: Profile,
+        path: &'a str,
+        text: String,
+        now: Instant,
+    ) -> FollowedFile<'a, R> {
         FollowedFile {
             rt,
+            profile,
             path,
             text,
             looked: now,
@@ -102,7 +111,7 @@ impl<'a, R: Files + Net + Clock + Eprint + AllocGlobal> FollowedFile<'a, R> {
 
     /// Serves the types that the text declares; whether that was done or refused.
     fn serve<O: Observer>(&mut self, observer: &mut O, server: &mut Server, text: &str) -> bool {
-        if let Err(fault) = types_in(self.rt.alloc(), self.path, text) {
+        if let Err(fault) = types_in(self.rt.alloc(), self.profile, self.path, text) {
             self.errors.print(&fault);
             return !matches!(fault, RunFault::Memory);
         }

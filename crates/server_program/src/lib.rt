@@ -2,19 +2,16 @@
 //! connection is answered is `httpedge`'s.
 //!
 //! Promises: the values of its arguments are those of `clap`'s exact matches; each fault has its exit status; the objects of
-//! a file are created by POSTs in turn before the port is listened on. What it logs and records has no contract.
-//! Stands on `serving` and `polling` for the turns of connections, on `programs` for what programs share, on `clap` for
-//! the arguments.
+//! a file are created by POSTs in turn before the port is listened on. Who is told of events has no contract.
+//! Stands on `serving` and `polling` for the turns of connections, on `event_log` for what is written of events, on `programs`
+//! for what programs share, on `clap` for the arguments.
 #![tactic(auto)]
 
 mod arguments;
 mod creations;
 mod fault;
 mod following;
-mod log_line;
-mod logging;
 mod object_fault;
-mod recording;
 mod running;
 mod standard_error;
 mod witness;
@@ -22,9 +19,6 @@ mod witness;
 pub use arguments::{ServerOptions, options};
 pub use creations::{BadLine, create_all};
 pub use fault::ServerFault;
-pub use log_line::{Line, LogCall, Moment, Sink, Told};
-pub use logging::Log;
 pub use object_fault::ObjectFault;
-pub use recording::line_of;
 pub use running::ssa_server;
 pub use witness::Witness;

@@ -6,7 +6,7 @@ use crate::creations::create_from;
 use crate::fault::ServerFault;
 use crate::following::FollowedFile;
 use crate::witness::Witness;
-use programs::{RunFault, discovered_if, end_with, types_in, types_text};
+use programs::{RunFault, end_with, profile_asked, types_in, types_text};
 use serving::{Limits, Server, serve_all};
 use std::io::{self, ErrorKind};
 use std::net::{Ipv4Addr, Net, OpenListener, SocketAddr, TcpListener};
@@ -122,7 +122,13 @@ fn run_at_once<'a, R: Files + Net + Clock + Print + Eprint + AllocGlobal>(
         error,
     ))?;
     let now = Instant::now(rt).map_err(ServerFault::Clock)?;
-    let mut file = FollowedFile::new(rt, options.types, text, now);
+    let mut file = FollowedFile::new(
+        rt,
+        profile_asked(options.discovery),
+        options.types,
+        text,
+        now,
+    );
     serve_at_once(rt, &mut server, &mut file, options)
 }
 
@@ -132,8 +138,8 @@ fn run<R: Files + Net + Clock + Print + Eprint + AllocGlobal>(
 ) -> Result<(), ServerFault> {
     let options = options(rt.alloc(), arguments)?;
     let text = types_text(rt, options.types)?;
-    let types = types_in(rt.alloc(), options.types, text.as_str())?;
-    let types = discovered_if(options.discovery, types);
+    let profile = profile_asked(options.discovery);
+    let types = types_in(rt.alloc(), profile, options.types, text.as_str())?;
     let mut api = Api::new(rt.alloc(), types)?;
     if let Some(path) = options.objects {
         create_from(rt, &mut api, path)?;

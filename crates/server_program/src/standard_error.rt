@@ -1,7 +1,7 @@
-//! The standard error of a server, on which nobody has to wait for whoever reads it. What is told there stands in `logging` and
+//! The standard error of a server, on which nobody has to wait for whoever reads it. What is told there stands in `witness` and
 //! `following`.
 
-use crate::log_line::{Line, Sink};
+use event_log::{Line, Sink};
 use mio::unix::SourceFd;
 use mio::{Events, Interest, Poll, Token};
 use std::fmt::Display;

@@ -1,10 +1,8 @@
 //! Who is told all that happens to a server's hub: it keeps the record, and has the log and what fails told on the standard
 //! error.
 
-use crate::log_line::Moment;
-use crate::logging::Log;
-use crate::recording::Record;
 use crate::standard_error::StandardError;
+use event_log::{Log, Moment, Record};
 use httpedge::{Effect, Event, Hub, HubFault};
 use observing::Observer;
 use std::fmt;

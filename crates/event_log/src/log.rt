@@ -1,10 +1,9 @@
-//! The log: what is told of requests, of watches and of what fails. How a line reads stands in `log_line`, who tells it in
-//! `witness`.
+//! The log: what is told of requests, of watches and of what fails. How a line reads stands in `line`.
 
 ghost use Rattle.std.specs.Prelude.{◌≡◌};
-ghost use Rattle.server_program.specs.declared.log_line.Told.TheVariants as told;
+ghost use Rattle.event_log.specs.declared.line.Told.TheVariants as told;
 
-use crate::log_line::{Line, LogCall, Moment, Sink, Told};
+use crate::line::{Line, LogCall, Moment, Sink, Told};
 use httpedge::{Change, Effect, Event, Hub, HubFailure, HubFault};
 use requests::Request;
 use std::alloc::Global;

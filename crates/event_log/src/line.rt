@@ -1,6 +1,5 @@
-//! A line of the log, and how it reads. What is told when stands in `logging`.
+//! A line of the log, and how it reads. What is told when stands in `log`.
 
-use crate::recording::digit;
 use httpedge::HubFailure;
 use std::fmt;
 use std::io::ErrorKind;
@@ -116,9 +115,7 @@ fn write_shown<W: fmt::Write>(f: &mut fmt::Formatter<W>, byte: u8) -> Result<usi
         f.write_char(byte as char)?;
         return Ok(1);
     }
-    f.write_str("\\x")?;
-    f.write_char(digit(byte / 16) as char)?;
-    f.write_char(digit(byte) as char)?;
+    write!(f, "\\x{byte:02x}")?;
     Ok(4)
 }
 
