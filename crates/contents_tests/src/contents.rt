@@ -1,5 +1,5 @@
 //! Questions about contents and their texts under a schema; the examples stand in `readings`, `object_texts`, `fields_v1`,
-//! `types_files` and `key_names`. Those about texts in order are answered in `borrowed`, those about two contents in
+//! `owned`, `types_files` and `key_names`. Those about texts in order are answered in `borrowed`, those about two contents in
 //! `two_contents`.
 //!
 //! | question | answer |
@@ -15,13 +15,14 @@
 use crate::borrowed::answer_borrowed;
 use crate::fields_v1::FIELDS;
 use crate::given::{
-    READY_TYPES, WIDGET_TYPES, first_schema, path, printed, shown_paths, tree, types_of,
+    READY_TYPES, WIDGET_TYPES, first_schema, path, printed, shown_paths, tree, types_for, types_of,
 };
 use crate::object_texts::{BY_STATUS, OBJECTS};
+use crate::owned::OWNED;
 use crate::readings::{KINDS, READINGS};
 use crate::two_contents::answer_of_two;
 use crate::types_files::PLACES;
-use api_types::{Types, is_lawful};
+use api_types::{Profile, Types, is_lawful};
 use fieldset::FieldSet;
 use json_texts::TextWriter;
 use ownership::{Identity, ObjectFault, Owned};
@@ -44,11 +45,9 @@ impl Answers for Contents {
     }
 }
 
-/// Plays examples under the first schema of a types file.
-fn play_under(alloc: Global, types: &str, examples: &str) -> Result<(), Fail> {
-    let mut contents = Contents {
-        types: types_of(alloc, types)?,
-    };
+/// Plays examples under the first schema of types.
+fn play_under(alloc: Global, types: Types, examples: &str) -> Result<(), Fail> {
+    let mut contents = Contents { types };
     play_all(alloc, &mut contents, examples)
 }
 
@@ -147,7 +146,13 @@ fn examples(rt: HostRuntime) -> Result<(), Fail> {
         (READY_TYPES, BY_STATUS),
         (KINDS, READINGS),
     ] {
-        play_under(rt.alloc(), types, examples)?;
+        play_under(rt.alloc(), types_of(rt.alloc(), types)?, examples)?;
     }
     Ok(())
+}
+
+#[test]
+fn owned_examples(rt: HostRuntime) -> Result<(), Fail> {
+    let types = types_for(rt.alloc(), Profile::Kubernetes(0), READY_TYPES)?;
+    play_under(rt.alloc(), types, OWNED)
 }

@@ -1,7 +1,7 @@
 //! What several tests are given: texts, paths, and a types file of widgets. Questions about contents are answered in
 //! `contents`, those about paths in `elements` and `sets`.
 
-use api_types::Types;
+use api_types::{Profile, Types};
 use fieldpath::{ElemText, Path};
 use fieldset::FieldSet;
 use schema::Schema;
@@ -36,9 +36,14 @@ pub const READY_TYPES: &str = r#"{"types":[
    "spec":{"type":"object","properties":{"replicas":{"type":"integer"}}},
    "status":{"type":"object","properties":{"ready":{"type":"integer"}}}}}}]}"#;
 
+/// The types of a types file that is read for a profile.
+pub fn types_for(alloc: Global, profile: Profile, text: &str) -> Result<Types, Fail> {
+    Ok(Types::read(alloc, profile, &Value::from_str(alloc, text)?)?)
+}
+
 /// The types of a types file.
 pub fn types_of(alloc: Global, text: &str) -> Result<Types, Fail> {
-    Ok(Types::read(alloc, &Value::from_str(alloc, text)?)?)
+    types_for(alloc, Profile::Plain, text)
 }
 
 /// The schema of the first type.

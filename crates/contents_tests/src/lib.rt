@@ -20,6 +20,8 @@ mod key_names;
 #[cfg(test)]
 mod object_texts;
 #[cfg(test)]
+mod owned;
+#[cfg(test)]
 mod owners;
 #[cfg(test)]
 mod readings;

@@ -6,7 +6,7 @@
 //! | question | answer |
 //! |---|---|
 //! | `NAME SPEC` | after an apply, by force with `!` behind the name, or after an update with `=`: whether what stands is as before, and its text at version 4; or the conflicts |
-//! | `NAME SPEC STATUS` | the same of a body that has a `status` too; `/status` behind the name (before `!` and `=`) writes by it |
+//! | `NAME SPEC STATUS` | the same of a body that has a `status` too; `/status` behind the name (before `!` and `=`) writes by it, `/field` by the main resource where the status is a field as others, `/none` by `status` there |
 //! | `anew NAME SPEC` | the same between marks, or once more where it was refused memory; what stands stays |
 //! | `managers NAME/OPERATION NAME/OPERATION` | how two managers compare, and whether they are the same; `/status` behind one that wrote by `status` |
 
@@ -111,23 +111,26 @@ fn shown_beside(
     }
 }
 
-/// The name of who writes, and what by.
-fn writer(words: &str) -> (&str, Subresource) {
-    match words.strip_suffix("/status") {
-        Some(name) => (name, Subresource::Status),
-        None => (words, Subresource::Main),
+/// The name of who writes, whether the status is apart, and what by.
+fn writer(words: &str) -> (&str, bool, Subresource) {
+    match words.split_once('/') {
+        Some((name, "status")) => (name, true, Subresource::Status),
+        Some((name, "field")) => (name, false, Subresource::Main),
+        Some((name, "none")) => (name, false, Subresource::Status),
+        _ => (words, true, Subresource::Main),
     }
 }
 
 /// Applies a content, by force with `!` behind the name, or updates to it with `=`.
 fn write(alloc: Global, live: &Owned, words: &str, content: Tree) -> Result<Owned, ApplyFault> {
     if let Some(words) = words.strip_suffix("=") {
-        let (name, subresource) = writer(words);
-        return Ok(update(alloc, live, name, subresource, content)?);
+        let (name, is_apart, subresource) = writer(words);
+        return Ok(update(alloc, live, name, is_apart, subresource, content)?);
     }
     let by = words.strip_suffix("!").unwrap_or(words);
-    let (name, subresource) = writer(by);
-    apply(alloc, live, name, subresource, content, by != words)
+    let (name, is_apart, subresource) = writer(by);
+    let force = by != words;
+    apply(alloc, live, name, is_apart, subresource, content, force)
 }
 
 /// Writes and tells the answer; what is done becomes what stands.
@@ -250,4 +253,18 @@ anew alice= {"replicas":4} => false {"apiVersion":"demo.example/v1","kind":"Widg
 #[test]
 fn a_write_by_status_that_is_refused_memory(rt: HostRuntime) -> Result<(), Fail> {
     play_each(rt.alloc(), READY_TYPES, STATUS_ANEW)
+}
+
+const FIELD_AS_OTHERS: &str =
+    r#"an apply owns the status, an update leaves it out, and the subresource writes nothing
+alice/field {"replicas":3} {"ready":1} => false {"apiVersion":"demo.example/v1","kind":"Widget","metadata":{"managedFields":[{"apiVersion":"demo.example/v1","fieldsType":"FieldsV1","fieldsV1":{"f:spec":{"f:replicas":{}},"f:status":{"f:ready":{}}},"manager":"alice","operation":"Apply"}],"name":"w1","namespace":"default","resourceVersion":"4"},"spec":{"replicas":3},"status":{"ready":1}}
+bob/field {"replicas":3} {"ready":2} => conflicts: .status.ready Manager { name: "alice", operation: Apply, subresource: Main }
+anew ctl/none {} {"ready":2} => true {"apiVersion":"demo.example/v1","kind":"Widget","metadata":{"managedFields":[{"apiVersion":"demo.example/v1","fieldsType":"FieldsV1","fieldsV1":{"f:spec":{"f:replicas":{}},"f:status":{"f:ready":{}}},"manager":"alice","operation":"Apply"}],"name":"w1","namespace":"default","resourceVersion":"4"},"spec":{"replicas":3},"status":{"ready":1}}
+anew ctl/none= {} {"ready":2} => true {"apiVersion":"demo.example/v1","kind":"Widget","metadata":{"managedFields":[{"apiVersion":"demo.example/v1","fieldsType":"FieldsV1","fieldsV1":{"f:spec":{"f:replicas":{}},"f:status":{"f:ready":{}}},"manager":"alice","operation":"Apply"}],"name":"w1","namespace":"default","resourceVersion":"4"},"spec":{"replicas":3},"status":{"ready":1}}
+anew bob/field= {"replicas":4} => false {"apiVersion":"demo.example/v1","kind":"Widget","metadata":{"managedFields":[{"apiVersion":"demo.example/v1","fieldsType":"FieldsV1","fieldsV1":{"f:spec":{"f:replicas":{}}},"manager":"bob","operation":"Update"}],"name":"w1","namespace":"default","resourceVersion":"4"},"spec":{"replicas":4}}"#;
+
+/// A status that isn't apart is a field as others.
+#[test]
+fn a_status_as_a_field(rt: HostRuntime) -> Result<(), Fail> {
+    play_each(rt.alloc(), READY_TYPES, FIELD_AS_OTHERS)
 }

@@ -6,10 +6,11 @@
 //! | `find GROUP VERSION PLURAL` | where the widgets' file has the type |
 //! | `kind N`, `shown N` | the kind of its type and whether the schema is lawful; how the schema is shown |
 //! | `made TEXT` | how the schema of a file of one type is shown, and whether it is lawful |
+//! | `owned TEXT` | the same, read for the profile `Kubernetes` |
 //! | `change TEXT -> TEXT` | why the second file may not follow the first, if it may not |
 
-use crate::given::{WIDGET_TYPES, first_schema, types_of};
-use api_types::{Types, is_lawful};
+use crate::given::{WIDGET_TYPES, first_schema, types_for, types_of};
+use api_types::{Profile, Types, is_lawful};
 use schema::Schema;
 use std::alloc::Global;
 use std::test::Fail;
@@ -27,7 +28,8 @@ impl Answers for TypesFile {
             "find" => found(alloc, &self.types, words),
             "kind" => kind_of(alloc, &self.types, words),
             "shown" => shown(alloc, &self.types, words),
-            "made" => made(alloc, words),
+            "made" => made(alloc, Profile::Plain, words),
+            "owned" => made(alloc, Profile::Kubernetes(0), words),
             "change" => changed(alloc, words),
             _ => Err("no such call".into()),
         }
@@ -56,8 +58,9 @@ fn shown_with_law(alloc: Global, schema: &Schema) -> Result<String, Fail> {
     in_words(alloc, (schema, is_lawful(schema)))
 }
 
-fn made(alloc: Global, file: &str) -> Result<String, Fail> {
-    shown_with_law(alloc, first_schema(&types_of(alloc, file)?)?)
+fn made(alloc: Global, profile: Profile, file: &str) -> Result<String, Fail> {
+    let types = types_for(alloc, profile, file)?;
+    shown_with_law(alloc, first_schema(&types)?)
 }
 
 fn change_of(alloc: Global, old: &Types, new: &Types) -> Result<String, Fail> {
@@ -85,7 +88,10 @@ shown 0 => Struct([("metadata", Struct([("annotations", MapOf(Text, false)), ("l
 shown 1 => Struct([("metadata", Struct([("annotations", MapOf(Text, false)), ("labels", MapOf(Text, false))], false)), ("spec", Struct([("counts", MapOf(Whole, false)), ("label", Text), ("total", Whole)], false))], false)
 
 read_past_and_sorted
-made {"types":[{"group":"demo.example","kind":"Widget","plural":"widgets","version":"v1","schema":{"type":"object","title":5,"properties":{"apiVersion":{"enum":[]},"kind":5,"metadata":{"type":"number"},"zone":{"type":"boolean","description":"where","format":"x"},"ports":{"type":"array","x-kubernetes-list-type":"map","x-kubernetes-list-map-keys":["protocol","port"],"items":{"type":"object","x-kubernetes-map-type":"granular","properties":{"port":{"type":"integer"},"protocol":{"type":"string"}}}},"at":{"type":"object","x-kubernetes-map-type":"atomic"},"by":{"type":"object","x-kubernetes-map-type":"atomic","additionalProperties":{"type":"object"}}}}}]} => (Struct([("at", Struct([], true)), ("by", MapOf(Struct([], false), true)), ("metadata", Struct([("annotations", MapOf(Text, false)), ("labels", MapOf(Text, false))], false)), ("ports", List(Struct([("port", Whole), ("protocol", Text)], false), Keyed(["port", "protocol"]))), ("zone", Truth)], false), true)"#;
+made {"types":[{"group":"demo.example","kind":"Widget","plural":"widgets","version":"v1","schema":{"type":"object","title":5,"properties":{"apiVersion":{"enum":[]},"kind":5,"metadata":{"type":"number"},"zone":{"type":"boolean","description":"where","format":"x"},"ports":{"type":"array","x-kubernetes-list-type":"map","x-kubernetes-list-map-keys":["protocol","port"],"items":{"type":"object","x-kubernetes-map-type":"granular","properties":{"port":{"type":"integer"},"protocol":{"type":"string"}}}},"at":{"type":"object","x-kubernetes-map-type":"atomic"},"by":{"type":"object","x-kubernetes-map-type":"atomic","additionalProperties":{"type":"object"}}}}}]} => (Struct([("at", Struct([], true)), ("by", MapOf(Struct([], false), true)), ("metadata", Struct([("annotations", MapOf(Text, false)), ("labels", MapOf(Text, false))], false)), ("ports", List(Struct([("port", Whole), ("protocol", Text)], false), Keyed(["port", "protocol"]))), ("zone", Truth)], false), true)
+
+metadata_of_controllers
+owned {"types":[{"group":"demo.example","kind":"Widget","plural":"widgets","version":"v1","schema":{"type":"object","properties":{"metadata":{"type":"number"}}}}]} => (Struct([("metadata", Struct([("annotations", MapOf(Text, false)), ("finalizers", List(Text, Set)), ("generateName", Text), ("labels", MapOf(Text, false)), ("ownerReferences", List(Struct([("apiVersion", Text), ("blockOwnerDeletion", Truth), ("controller", Truth), ("kind", Text), ("name", Text), ("uid", Text)], false), Keyed(["uid"])))], false))], false), true)"#;
 
 #[test]
 fn examples(rt: HostRuntime) -> Result<(), Fail> {

@@ -4,6 +4,7 @@ use crate::arguments::options;
 use crate::dialing::Loopback;
 use crate::fault::ProgramFault;
 use crate::printing::print_changes;
+use api_types::Profile;
 use programs::{end_with, read_types};
 use std::io;
 use std::net::Net;
@@ -15,7 +16,7 @@ fn run<R: Files + Net + Clock + Print + Eprint + AllocGlobal>(
     arguments: &[String],
 ) -> Result<(), ProgramFault> {
     let options = options(rt.alloc(), arguments)?;
-    let types = read_types(rt, options.types)?;
+    let types = read_types(rt, Profile::Plain, options.types)?;
     let mut dialer = Loopback::new(rt, options.port);
     print_changes(
         rt.alloc(),

@@ -11,6 +11,7 @@ use Rattle.api_types.specs.TypesFile.{ServedShape, declared_types, listed, names
 use Rattle.api_types.specs.declared.fault.TypesFault.{TypesFault}
 use Rattle.api_types.specs.declared.fault.TypesFault.TheVariants as fault
 use Rattle.api_types.specs.declared.fault_place.LocatedFault.{LocatedFault}
+use Rattle.api_types.specs.declared.profile.Profile.TheVariants.{Plain}
 use Rattle.programs.specs.ReplayProgram.{AreNumbered, AreRefusals, IsNumberOf, IsNumbered, IsRefusal, IsWhole, types_refusal_number}
 use Rattle.programs.specs.declared.types_refusal.TypesRefusal.{TypesRefusal}
 
@@ -60,24 +61,24 @@ pub some_left : (all : List LocatedFault) (n : ℕ) → n ≡ length all → (n 
 some_left [] n is some none = subst IsYes (sym (ap (λ k. k == 0) is) ∙ some) tt
 some_left (reported ∷ all) n is some none = not_none reported all none
 
-first_reported : (n : ℕ) (ts : Items) (reported : LocatedFault) (all : List LocatedFault) → ReportsTypes n ts (reported ∷ all) → (e : Refusal) × (types_of ts ≡ Err e) × ReportsRefusal reported.fault e
+first_reported : (n : ℕ) (ts : Items) (reported : LocatedFault) (all : List LocatedFault) → ReportsTypes n ts (reported ∷ all) → (e : Refusal) × (types_of Plain ts ≡ Err e) × ReportsRefusal reported.fault e
 first_reported n no_items reported all is = absurd (not_none reported all is)
-first_reported n (item t ts) reported all (prefix, others, joined, of_type, left) = by_type (first_reported (suc n) ts reported all) (type_of t) refl prefix joined of_type.0
+first_reported n (item t ts) reported all (prefix, others, joined, of_type, left) = by_type (first_reported (suc n) ts reported all) (type_of Plain t) refl prefix joined of_type.0
   where
-    by_type : (ReportsTypes (suc n) ts (reported ∷ all) → (e : Refusal) × (types_of ts ≡ Err e) × ReportsRefusal reported.fault e) → (r : Result ServedShape Refusal) → type_of t ≡ r → (first : List LocatedFault) → reported ∷ all ≡ first ++ others → BeginsBy r first
-        → (e : Refusal) × (types_of (item t ts) ≡ Err e) × ReportsRefusal reported.fault e
+    by_type : (ReportsTypes (suc n) ts (reported ∷ all) → (e : Refusal) × (types_of Plain ts ≡ Err e) × ReportsRefusal reported.fault e) → (r : Result ServedShape Refusal) → type_of Plain t ≡ r → (first : List LocatedFault) → reported ∷ all ≡ first ++ others → BeginsBy r first
+        → (e : Refusal) × (types_of Plain (item t ts) ≡ Err e) × ReportsRefusal reported.fault e
     by_type next (Ok s) is first same begins =
         let later = next (subst (ReportsTypes (suc n) ts) (sym (same ∙ ap (λ fs. fs ++ others) begins)) left) in
-        (later.0, ap (λ r. one_type r (types_of ts)) is ∙ ap (one_type (Ok s)) later.1, later.2)
+        (later.0, ap (λ r. one_type r (types_of Plain ts)) is ∙ ap (one_type (Ok s)) later.1, later.2)
     by_type next (Err e) is [] same begins = absurd begins
-    by_type next (Err e) is (one ∷ more) same begins = (e, ap (λ r. one_type r (types_of ts)) is, subst (λ p. ReportsRefusal p.fault e) (sym (ap (λ ps. get_or ps 0 reported) same)) begins)
+    by_type next (Err e) is (one ∷ more) same begins = (e, ap (λ r. one_type r (types_of Plain ts)) is, subst (λ p. ReportsRefusal p.fault e) (sym (ap (λ ps. get_or ps 0 reported) same)) begins)
 
 first_declared : (file : Data) (r : Result Items Refusal) (reported : LocatedFault) (all : List LocatedFault) → listed file ≡ r → ReportsFile r (reported ∷ all)
-    → (e : Refusal) × (declared_types file ≡ Err e) × ReportsRefusal reported.fault e
+    → (e : Refusal) × (declared_types Plain file ≡ Err e) × ReportsRefusal reported.fault e
 first_declared file (Ok ts) reported all is reports =
     let first = first_reported 0 ts reported all reports in (
       first.0,
-      ap (λ r. and_then r (λ ds. and_then (types_of ds) (λ us. if names_differ us then Ok us else Err same_names))) is ∙ ap (λ r. and_then r (λ us. if names_differ us then Ok us else Err same_names)) first.1,
+      ap (λ r. and_then r (λ ds. and_then (types_of Plain ds) (λ us. if names_differ us then Ok us else Err same_names))) is ∙ ap (λ r. and_then r (λ us. if names_differ us then Ok us else Err same_names)) first.1,
       first.2,
     )
 first_declared file (Err e) reported all is reports = absurd (not_none reported all reports)
@@ -104,16 +105,16 @@ refusals_reported file (reported ∷ all) (first ∷ others) some reports places
         let declared = first_declared file (listed file) reported all refl reports in
         let telling : ReportsRefusal first.fault declared.0 = subst (λ f. ReportsRefusal f declared.0) (sym same) declared.2 in (
           (declared.0, declared.1, number.2 ∙ ap types_refusal_number (same_refusal first.fault number.0 declared.0 number.1 telling)),
-          fails_reported first.fault (declared_types file) declared.0 declared.1 telling,
+          fails_reported first.fault (declared_types Plain file) declared.0 declared.1 telling,
           subst (λ o. IfSome o (λ p. IsPlaceOf EndsReading first.fault p file)) (sym place) (subst (λ f. IsPlaceOf EndsReading f reported.place file) (sym same) places.1),
         )
 
-pub whole_refusals : (file : Data) (f : TypesFault) (all : List LocatedFault) (refusals : List TypesRefusal) → all ≡ [] → ReportsFile (listed file) all → FailsWith f (declared_types file) → IsWhole f refusals
+pub whole_refusals : (file : Data) (f : TypesFault) (all : List LocatedFault) (refusals : List TypesRefusal) → all ≡ [] → ReportsFile (listed file) all → FailsWith f (declared_types Plain file) → IsWhole f refusals
     → AreRefusals file refusals
 whole_refusals file f all refusals none reports fails (refusal, one, same, place, number) =
-    let failed : FailsWith refusal.fault (declared_types file) = subst (λ g. FailsWith g (declared_types file)) (sym same) fails in
+    let failed : FailsWith refusal.fault (declared_types Plain file) = subst (λ g. FailsWith g (declared_types Plain file)) (sym same) fails in
     subst (AreRefusals file) (sym one) (
-      (number_of refusal.fault (declared_types file) refusal.number failed number, failed, subst (λ o. IfSome o (λ p. IsPlaceOf EndsReading refusal.fault p file)) (sym place) tt),
+      (number_of refusal.fault (declared_types Plain file) refusal.number failed number, failed, subst (λ o. IfSome o (λ p. IsPlaceOf EndsReading refusal.fault p file)) (sym place) tt),
       ([], subst (ReportsFile (listed file)) none reports, (All-nil (λ reported. IsPlaceOf Breaks reported.fault reported.place file), tt), inr (refl, refl)),
     )
 

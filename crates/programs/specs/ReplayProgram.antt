@@ -10,6 +10,8 @@ use Rattle.api_types.specs.Served.{types_view}
 use Rattle.api_types.specs.TypesFile.{declared_types, listed}
 use Rattle.api_types.specs.declared.fault.TypesFault.{TypesFault}
 use Rattle.api_types.specs.declared.fault_place.LocatedFault.{LocatedFault}
+use Rattle.api_types.specs.declared.profile.Profile.{Profile}
+use Rattle.api_types.specs.declared.profile.Profile.TheVariants.{Plain}
 use Rattle.api_types.specs.declared.types.Types.{Types}
 use Rattle.serde_json.specs.Data.{Data}
 use Rattle.serde_json.specs.Read.{read as read_json}
@@ -56,10 +58,10 @@ types_refusal_number not_the_form = 6
 abbrev pub IsNumberOf : TypesFault → ℕ → Type 0
 IsNumberOf f n = (e : Refusal) × ReportsRefusal f e × (n ≡ types_refusal_number e)
 
--- the first refusal of a types file, by its number, and a place in it where reading ends by it, if one is named
+-- the first refusal of a types file, whatever its profile, by its number, and a place in it where reading ends by it, if one is named
 abbrev pub IsRefusal : Data → TypesRefusal → Type 0
 IsRefusal file refusal =
-    ((e : Refusal) × (declared_types file ≡ Err e) × (refusal.number ≡ types_refusal_number e)) × FailsWith refusal.fault (declared_types file) × IfSome refusal.place (λ place. IsPlaceOf EndsReading refusal.fault place file)
+    ((e : Refusal) × (declared_types Plain file ≡ Err e) × (refusal.number ≡ types_refusal_number e)) × FailsWith refusal.fault (declared_types Plain file) × IfSome refusal.place (λ place. IsPlaceOf EndsReading refusal.fault place file)
 
 -- the refusal of a fault that is told with its place
 abbrev pub IsNumbered : LocatedFault → TypesRefusal → Type 0
@@ -91,11 +93,11 @@ IsRefused path file (fault.Types refused) = (string_bytes refused.path ≡ path)
 IsRefused path file fault.Memory = ⊤
 IsRefused path file _ = ⊥
 
--- what is told of the text of a types file: the types that it declares; or, with the file's path, that it is no JSON, or
+-- what is told of the text of a types file: the types of the profile that it declares; or, with the file's path, that it is no JSON, or
 -- its refusals
-abbrev pub ReadsTypesFile : List ℕ → List ℕ → Result Types RunFault → Type 0
-ReadsTypesFile path text (Ok types) = (d : Data) × (read_json text ≡ Some d) × (declared_types d ≡ Ok (types_view types))
-ReadsTypesFile path text (Err (fault.TypesText named e)) = (string_bytes named ≡ path) × (read_json text ≡ None)
-ReadsTypesFile path text (Err (fault.Types refused)) = (d : Data) × (read_json text ≡ Some d) × IsRefused path d (fault.Types refused)
-ReadsTypesFile path text (Err fault.Memory) = ⊤
-ReadsTypesFile path text (Err _) = ⊥
+abbrev pub ReadsTypesFile : Profile → List ℕ → List ℕ → Result Types RunFault → Type 0
+ReadsTypesFile profile path text (Ok types) = (d : Data) × (read_json text ≡ Some d) × (declared_types profile d ≡ Ok (types_view types))
+ReadsTypesFile profile path text (Err (fault.TypesText named e)) = (string_bytes named ≡ path) × (read_json text ≡ None)
+ReadsTypesFile profile path text (Err (fault.Types refused)) = (d : Data) × (read_json text ≡ Some d) × IsRefused path d (fault.Types refused)
+ReadsTypesFile profile path text (Err fault.Memory) = ⊤
+ReadsTypesFile profile path text (Err _) = ⊥

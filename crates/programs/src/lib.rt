@@ -25,5 +25,5 @@ pub use numbers::{NumberOption, count_of, number, number_option, port_of};
 pub use resource::{Resource, resource_in};
 pub use run_fault::{RunFault, WRONG_USAGE, end_with, unread_path};
 pub use standard_streams::hold_standard_streams;
-pub use types_file::{discovered_if, read_types, types_in, types_text};
+pub use types_file::{profile_asked, read_types, types_in, types_text};
 pub use types_refusal::{RefusedTypes, TypesRefusal};

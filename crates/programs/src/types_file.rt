@@ -1,16 +1,16 @@
 //! Types files: the types that a file declares, or the fault that names the file. Its text is read in the crate `api_types`.
-ghost use Rattle.std.specs.Prelude.{◌≡◌, ℕ, List, IfOk, IfSome, None, Err, if◌then◌else◌, map};
-ghost use Rattle.api_types.specs.Discovered.{discovered};
-ghost use Rattle.api_types.specs.Served.{types_view};
+ghost use Rattle.std.specs.Prelude.{◌≡◌, ℕ, List, IfOk, IfSome, None, Err, if◌then◌else◌};
 ghost use Rattle.api_types.specs.Views.{FailsWith};
 ghost use Rattle.api_types.specs.TypesFile.{declared_types};
+ghost use Rattle.api_types.specs.declared.profile.Profile.{Profile};
+ghost use Rattle.api_types.specs.declared.profile.Profile.TheVariants.{Plain, Discovered};
 ghost use Rattle.serde_json.specs.Read.{read as read_json};
 ghost use Rattle.serde_json.specs.View.{view};
 ghost use Rattle.programs.specs.ReplayProgram.{AreNumbered, AreRefusals, IsNumberOf, IsNumbered, IsRefused, IsWhole, ReadsTypesFile};
 
 use crate::run_fault::{RunFault, unread_path};
 use crate::types_refusal::{RefusedTypes, TypesRefusal};
-use api_types::{FaultPlace, LocatedFault, Types, TypesFault, all_places};
+use api_types::{FaultPlace, LocatedFault, Profile, Types, TypesFault, all_places};
 use serde_json::Value;
 use std::alloc::{AllocError, Global};
 use std::fs;
@@ -84,7 +84,7 @@ fn refusals_of(
     file: &Value,
     fault: TypesFault,
 ) -> Result<Option<Vec<TypesRefusal>>, AllocError>
-    ensures { FailsWith fault (declared_types (view file.now)) → IfOk result (λ o. IfSome o (λ v. AreRefusals (view file.now) v.items)) }
+    ensures { FailsWith fault (declared_types Plain (view file.now)) → IfOk result (λ o. IfSome o (λ v. AreRefusals (view file.now) v.items)) }
 {
     let all = all_places(alloc, file)?;
     if all.is_empty() {
@@ -94,7 +94,7 @@ fn refusals_of(
 }
 
 fn refused(alloc: Global, path: &str, file: &Value, fault: TypesFault) -> RunFault
-    ensures { FailsWith fault (declared_types (view file.now)) → IsRefused path.now (view file.now) result }
+    ensures { FailsWith fault (declared_types Plain (view file.now)) → IsRefused path.now (view file.now) result }
 {
     let Ok(Some(refusals)) = refusals_of(alloc, file, fault) else {
         return RunFault::Memory;
@@ -106,7 +106,7 @@ fn refused(alloc: Global, path: &str, file: &Value, fault: TypesFault) -> RunFau
 }
 
 fn not_json(alloc: Global, path: &str, error: serde_json::Error) -> RunFault
-    ensures { (text : List ℕ) → read_json text ≡ None → ReadsTypesFile path.now text (Err result) }
+    ensures { (profile : Profile) (text : List ℕ) → read_json text ≡ None → ReadsTypesFile profile path.now text (Err result) }
 {
     match String::from_str(alloc, path) {
         Ok(path) => RunFault::TypesText(path, error),
@@ -114,16 +114,16 @@ fn not_json(alloc: Global, path: &str, error: serde_json::Error) -> RunFault
     }
 }
 
-/// The types that the text of a types file declares; a fault names the file by its path.
-pub fn types_in(alloc: Global, path: &str, text: &str) -> Result<Types, RunFault>
-    ensures { ReadsTypesFile path.now text.now result }
+/// The types of a profile that the text of a types file declares; a fault names the file by its path.
+pub fn types_in(alloc: Global, profile: Profile, path: &str, text: &str) -> Result<Types, RunFault>
+    ensures { ReadsTypesFile profile path.now text.now result }
 {
     let value = match Value::from_str(alloc, text) {
         Ok(value) => value,
         Err(error) if error.is_memory() => return Err(RunFault::Memory),
         Err(error) => return Err(not_json(alloc, path, error)),
     };
-    match Types::read(alloc, &value) {
+    match Types::read(alloc, profile, &value) {
         Ok(types) => Ok(types),
         Err(fault) => Err(refused(alloc, path, &value, fault)),
     }
@@ -140,18 +140,22 @@ pub fn types_text<R: Files + AllocGlobal>(rt: &R, path: &str) -> Result<String, 
     }
 }
 
-/// The types; where that is asked for, documents tell clients of them.
-pub fn discovered_if(is_asked: bool, types: Types) -> Types
-    ensures { types_view result ≡ (if is_asked then map discovered (types_view types) else types_view types) }
+/// The profile of types; where that is asked for, documents tell clients of them.
+pub fn profile_asked(is_discovery: bool) -> Profile
+    ensures { result ≡ (if is_discovery then Discovered else Plain) }
 {
-    match is_asked {
-        true => types.with_discovery(),
-        false => types,
+    match is_discovery {
+        true => Profile::Discovered,
+        false => Profile::Plain,
     }
 }
 
-/// Reads a types file.
-pub fn read_types<R: Files + AllocGlobal>(rt: &R, path: &str) -> Result<Types, RunFault> {
+/// Reads a types file, for a profile.
+pub fn read_types<R: Files + AllocGlobal>(
+    rt: &R,
+    profile: Profile,
+    path: &str,
+) -> Result<Types, RunFault> {
     let text = types_text(rt, path)?;
-    types_in(rt.alloc(), path, text.as_str())
+    types_in(rt.alloc(), profile, path, text.as_str())
 }

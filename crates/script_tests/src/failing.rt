@@ -2,7 +2,7 @@
 //! sockets fail. What a program makes of that is in `tests/scripts` at the top.
 
 use crate::failing_net::{FailingNet, Fate};
-use api_types::Types;
+use api_types::{Profile, Types};
 use programs::RunFault;
 use scripts::{OverLoopback, ReplayFault, read_script, replay};
 use serde_json::Value;
@@ -76,7 +76,7 @@ impl Link for Breaking {
 }
 
 fn types(alloc: Global) -> Result<Types, Fail> {
-    Ok(Types::read(alloc, &Value::from_str(alloc, TYPES)?)?)
+    Ok(Types::read(alloc, Profile::Plain, &Value::from_str(alloc, TYPES)?)?)
 }
 
 fn settings(alloc: Global) -> Result<Settings, AllocError> {

@@ -1,6 +1,7 @@
 //! What only linked calls show of connections and their bytes: how bytes are taken, what is kept of connections that are over,
 //! and the parts of a request and of a reply.
 
+use api_request::Method;
 use requests::{Decision, Head, Length, checked_media, path_of, query_of, read_head, reply_bytes};
 use std::alloc::Global;
 use std::test::Fail;
@@ -49,7 +50,9 @@ stand 10008 => 0 false true"#;
 fn head_in_words(alloc: Global, head: &Head<'_>) -> Result<String, Fail> {
     let path = path_of(head.request_target);
     let query = query_of(head.request_target);
-    let media = str::from_utf8(checked_media(head).ok_or("no media type")?)?;
+    let media = str::from_utf8(checked_media(Method::named(head.method), head).ok_or(
+        "no media type",
+    )?)?;
     let Length::Digits(digits) = head.length else {
         return Err("no length".into());
     };

@@ -2,7 +2,7 @@
 //! them ended, and which request was answered. The bytes themselves are rows of `tests/hub` at the top.
 
 use crate::given::WIDGET_TYPES;
-use api_types::Types;
+use api_types::{Profile, Types};
 use httpedge::{Effect, Event, Hub};
 use requests::Request;
 use serde_json::Value;
@@ -146,7 +146,11 @@ fn expect_requests(alloc: Global, hub: &mut Hub) -> Result<(), Fail> {
 #[test]
 fn effects_say_what_was_answered(rt: HostRuntime) -> Result<(), Fail> {
     let alloc = rt.alloc();
-    let types = Types::read(alloc, &Value::from_str(alloc, WIDGET_TYPES)?)?;
+    let types = Types::read(
+        alloc,
+        Profile::Plain,
+        &Value::from_str(alloc, WIDGET_TYPES)?,
+    )?;
     let mut hub = Hub::new(alloc, Api::new(alloc, types)?);
     let told = expect_requests(alloc, &mut hub);
     mem::forget(hub);
@@ -156,7 +160,11 @@ fn effects_say_what_was_answered(rt: HostRuntime) -> Result<(), Fail> {
 #[test]
 fn effects_of_events(rt: HostRuntime) -> Result<(), Fail> {
     let alloc = rt.alloc();
-    let types = Types::read(alloc, &Value::from_str(alloc, WIDGET_TYPES)?)?;
+    let types = Types::read(
+        alloc,
+        Profile::Plain,
+        &Value::from_str(alloc, WIDGET_TYPES)?,
+    )?;
     let mut hub = Hub::new(alloc, Api::new(alloc, types)?);
     let told = expect_effects(alloc, &mut hub);
     mem::forget(hub);

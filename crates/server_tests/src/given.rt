@@ -1,6 +1,6 @@
 //! The types files that tests are given, and an API of one.
 
-use api_types::Types;
+use api_types::{Profile, Types};
 use serde_json::Value;
 use std::alloc::Global;
 use std::test::Fail;
@@ -27,7 +27,7 @@ pub fn types_text(name: &str) -> &str {
 }
 
 pub fn types_of(alloc: Global, text: &str) -> Result<Types, Fail> {
-    Ok(Types::read(alloc, &Value::from_str(alloc, text)?)?)
+    Ok(Types::read(alloc, Profile::Plain, &Value::from_str(alloc, text)?)?)
 }
 
 /// An API of these types without objects.

@@ -1,7 +1,7 @@
 //! What a call would change, as it is told before it is made. Calls that are made are in `tests/hub` at the top.
 
 use crate::given::{WIDGET_TYPES, fresh_api};
-use api_request::{APPLY_TYPE, Body, Call, Plan};
+use api_request::{APPLY_TYPE, Body, Call, Changes, Method, Plan};
 use std::alloc::Global;
 use std::mem;
 use std::test::Fail;
@@ -17,17 +17,26 @@ const PLANNED: &str =
 
 /// What a plan changes, or the status of an answer that changes nothing.
 fn plan_in_words(alloc: Global, plan: &Plan) -> Result<String, Fail> {
-    match &plan.change {
-        Some(change) => in_words(alloc, (change.revision(), change.key(), plan.change_body())),
-        None => in_words(alloc, plan.answer.status),
+    match &plan.changes {
+        Changes::None => in_words(alloc, plan.answer.status),
+        Changes::Answered(change) => in_words(
+            alloc,
+            (change.revision(), change.key(), plan.change_body()),
+        ),
+        Changes::Each(each) => in_words(alloc, (each.after, &each.writes)),
     }
 }
 
 /// What a call of an object is planned to do.
-fn planned(alloc: Global, api: &mut Api, method: &str, body: Option<Body>) -> Result<String, Fail> {
+fn planned(
+    alloc: Global,
+    api: &mut Api,
+    method: Method,
+    body: Option<Body>,
+) -> Result<String, Fail> {
     let path = "/apis/demo.example/v1/namespaces/default/widgets/w1";
     let media = body.as_ref().map(|_| APPLY_TYPE.as_bytes());
-    let target = api.admit(method, path, media).map_err(|_| "refused")?;
+    let target = api.admit(Some(method), path, media).map_err(|_| "refused")?;
     let query = Vec::from_slice(alloc, b"fieldManager=alice")?;
     let plan = api.plan(&Call {
         target,
@@ -39,8 +48,8 @@ fn planned(alloc: Global, api: &mut Api, method: &str, body: Option<Body>) -> Re
 
 fn expect_plans(alloc: Global, api: &mut Api) -> Result<(), Fail> {
     let body = Body::read(alloc, APPLY.as_bytes()).map_err(|_| "no JSON")?;
-    expect_text(planned(alloc, api, "PATCH", Some(body))?, PLANNED)?;
-    expect_text(planned(alloc, api, "GET", None)?, "404")
+    expect_text(planned(alloc, api, Method::Patch, Some(body))?, PLANNED)?;
+    expect_text(planned(alloc, api, Method::Get, None)?, "404")
 }
 
 /// The API is not dropped, and no other function holds one.

@@ -11,8 +11,9 @@
 use crate::given::{WIDGET_TYPES, fresh_api};
 use crate::hub_rows::event_of;
 use crate::streams::given::LIST;
+use event_log::{Line, Log, LogCall, Moment, Sink, Told, script_line};
 use httpedge::{Effect, Event, Hub, HubFault};
-use server_program::{Line, Log, LogCall, Moment, ServerFault, Sink, Told, options};
+use server_program::{ServerFault, options};
 use std::alloc::{AllocError, Global};
 use std::mem;
 use std::test::Fail;
@@ -28,7 +29,7 @@ fn options_in_words(alloc: Global, words: &str) -> Result<String, Fail> {
 
 /// The line of an event, in one line.
 fn recorded(alloc: Global, event: &Event) -> Result<String, Fail> {
-    let line = server_program::line_of(alloc, event)?;
+    let line = script_line(alloc, event)?;
     line_of(alloc, line.as_bytes())
 }
 

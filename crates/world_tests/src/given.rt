@@ -1,9 +1,9 @@
 //! What a run is asked for.
 
-use crate::indexes::{ByLabel, ByNamespace};
+use crate::indexes::ByLabel;
 use crate::links::Noting;
-use api_types::Types;
-use indexer::IndexBy;
+use api_types::{Profile, Types};
+use indexer::{ByNamespace, IndexBy};
 use serde_json::Value;
 use std::alloc::{AllocError, Global};
 use std::test::Fail;
@@ -15,7 +15,7 @@ const TYPES: &str =
     r#"{"types":[{"group":"demo.example","version":"v1","kind":"Widget","plural":"widgets","schema":{"type":"object","properties":{"spec":{"type":"object","properties":{"args":{"type":"array","items":{"type":"string"}},"config":{"type":"object","additionalProperties":{"type":"string"}},"image":{"type":"string"},"ports":{"type":"array","x-kubernetes-list-type":"map","x-kubernetes-list-map-keys":["name"],"items":{"type":"object","properties":{"name":{"type":"string"},"note":{"type":"string"},"port":{"type":"integer"}}}},"replicas":{"type":"integer"},"tags":{"type":"array","x-kubernetes-list-type":"set","items":{"type":"string"}}}}}}},{"group":"summary.example","version":"v1","kind":"LabelSummary","plural":"labelsummaries","schema":{"type":"object","properties":{"spec":{"type":"object","properties":{"counts":{"type":"object","additionalProperties":{"type":"integer"}},"label":{"type":"string"},"total":{"type":"integer"}}}}}}]}"#;
 
 pub fn types(alloc: Global) -> Result<Types, Fail> {
-    Ok(Types::read(alloc, &Value::from_str(alloc, TYPES)?)?)
+    Ok(Types::read(alloc, Profile::Plain, &Value::from_str(alloc, TYPES)?)?)
 }
 
 /// What stands behind the name in words `NAME=VALUE ..`, or what stands for it.

@@ -1,4 +1,4 @@
-//! Two kinds of indexes.
+//! An index by a label.
 
 ghost use Rattle.std.specs.Prelude.{◌≡◌, IfOk, map, string_bytes};
 ghost use Rattle.indexer.specs.Objects.{labels_of, stored_of};
@@ -11,26 +11,6 @@ ghost use Rattle.std.specs.Prelude.{option_map};
 use indexer::{IndexBy, Object};
 use std::alloc::{AllocError, Global};
 use std::collections::BTreeMap;
-
-/// By the object's namespace.
-#[derive(Drop)]
-pub struct ByNamespace;
-
-impl IndexBy for ByNamespace {
-    ghost use Rattle.std.specs.Prelude.{codes, [], ◌∷◌};
-
-    ghost title = { λ _. codes "namespace" };
-
-    ghost keys = { λ _ o. o.namespace ∷ [] };
-
-    fn name(&self) -> &str {
-        "namespace"
-    }
-
-    fn keys_of(&self, alloc: Global, object: &Object) -> Result<Vec<String>, AllocError> {
-        Ok(vec![in alloc; String::from_str(alloc, object.namespace.as_str())?]?)
-    }
-}
 
 /// By the value of a label; an object without the label has no key.
 #[derive(Drop)]

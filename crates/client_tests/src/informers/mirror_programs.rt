@@ -3,7 +3,7 @@
 
 use crate::informers::mirrors::server_of;
 use crate::rows::{expect_text, in_words};
-use api_types::Types;
+use api_types::{Profile, Types};
 use mirror_program::{MirrorOptions, options, print_changes};
 use programs::Resource;
 use serde_json::Value;
@@ -71,7 +71,7 @@ fn printed(alloc: Global, reads: usize, writes: usize) -> Result<(String, String
         taken: Vec::new(alloc),
         writes,
     };
-    let types = Types::read(alloc, &Value::from_str(alloc, WIDGETS)?)?;
+    let types = Types::read(alloc, Profile::Plain, &Value::from_str(alloc, WIDGETS)?)?;
     let options = ALL;
     let done = print_changes(alloc, &types, &options, &mut server, &mut output);
     let end = match done {

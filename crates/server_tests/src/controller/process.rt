@@ -2,9 +2,9 @@
 
 use crate::given::fresh_api;
 use httpedge::{Event, Hub};
-use indexer::{IndexBy, Indexer, Object};
+use indexer::{ByNamespace, Indexer, Object};
 use reflector::{Informer, Notice, Source};
-use std::alloc::{AllocError, Global};
+use std::alloc::Global;
 use std::test::Fail;
 
 const TYPES: &str =
@@ -14,26 +14,6 @@ const WIDGETS: &str = "/apis/demo.example/v1/namespaces/default/widgets";
 
 /// How many lines of a watch the server gives at a turn.
 const LINES: u64 = 100;
-
-/// By the object's namespace.
-#[derive(Drop)]
-pub struct ByNamespace;
-
-impl IndexBy for ByNamespace {
-    ghost use Rattle.std.specs.Prelude.{codes, [], ◌∷◌};
-
-    ghost title = { λ _. codes "namespace" };
-
-    ghost keys = { λ _ o. o.namespace ∷ [] };
-
-    fn name(&self) -> &str {
-        "namespace"
-    }
-
-    fn keys_of(&self, alloc: Global, object: &Object) -> Result<Vec<String>, AllocError> {
-        Ok(vec![in alloc; String::from_str(alloc, object.namespace.as_str())?]?)
-    }
-}
 
 fn informer(alloc: Global) -> Result<Informer<ByNamespace>, Fail> {
     let widgets = Source {
