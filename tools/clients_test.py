@@ -4,8 +4,8 @@ another folder); part of the gate.
 
     tools/clients_test.py
 
-What needs something that isn't installed is told as skipped: Go (Debian's `golang-go`), the packages `kubernetes` and `pytest`
-(Debian's `python3-kubernetes` and `python3-pytest`), and client-go, which is taken from the GOPATH that CLIENT_GO names (examples/go.md says how to make one).
+What needs something that isn't installed is told as skipped: Go (Debian's `golang-go`) and its checker (`go-staticcheck`), the packages `kubernetes` and `pytest`
+(Debian's `python3-kubernetes` and `python3-pytest`), `mypy`, `black`, `pyflakes`, and client-go, which is taken from the GOPATH that CLIENT_GO names (examples/go.md says how to make one).
 The last line counts what passed and what failed; the status is 1 where something fails.
 """
 from __future__ import annotations
@@ -26,6 +26,8 @@ PYTHON = f"{TOP}/clients/python"
 GO = f"{TOP}/clients/go"
 # Tests that need a package of others.
 OF_OTHERS = {"test_kubernetes": "kubernetes", "test_pytest": "pytest"}
+# What checks the package's types, form and names, with words.
+CHECKERS = {"mypy": ("--cache-dir", os.devnull), "black": ("--check", "-q"), "pyflakes": ()}
 # What a step may take; the first build of client-go takes some minutes.
 SECONDS = 900
 
@@ -65,6 +67,10 @@ def python_steps() -> Iterator[Step]:
         strictly = () if name == "test_kubernetes" else ("-W", "error::ResourceWarning")
         yield Step(f"clients/python, {name}", PYTHON, python or sys.executable, *strictly, "-m", "unittest", "-q", f"tests.{name}",
                    skipped="" if python else f"python3-{package} isn't installed")
+    for name, words in CHECKERS.items():
+        python = python_with(name)
+        yield Step(f"clients/python, {name}", PYTHON, python or sys.executable, "-m", name, *words, "nazhuvem", "tests",
+                   skipped="" if python else f"{name} isn't installed")
     for name in ("first_test.py", "reconcile.py", "lease.py"):
         yield Step(f"examples/{name}", f"{TOP}/examples", sys.executable, name, PYTHONPATH=PYTHON)
 
@@ -76,6 +82,8 @@ def go_steps(room: str) -> Iterator[Step]:
                for name in sorted(os.listdir(folder)) if name.endswith(".go")]
     yield Step("the form of the Go sources", TOP, "sh", "-c", 'test -z "$(gofmt -l "$@" | tee /dev/stderr)"', "sh", *sources, skipped=missing)
     yield Step("clients/go, vet", GO, "go", "vet", ".", skipped=missing)
+    no_check = missing or ("" if shutil.which("go-staticcheck") else "go-staticcheck isn't installed")
+    yield Step("clients/go, staticcheck", GO, "go-staticcheck", "./...", skipped=no_check)
     yield Step("clients/go", GO, "go", "test", "-count=1", ".", skipped=missing)
     yield Step("examples/ten_minutes/go, vet", first, "go", "vet", ".", skipped=missing)
     client_go = os.environ.get("CLIENT_GO", "")

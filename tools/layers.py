@@ -63,6 +63,7 @@ ROWS = (
             (
                 "ssa_server",
                 "server_program",
+                "event_log",
                 "ssa_replay",
                 "ssa_loop",
                 "scripts",

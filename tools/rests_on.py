@@ -134,9 +134,9 @@ TIED = (
         "the labels of the content that the text was printed of",
     ),
     (
-        "line_laws::names_are_of_objects",
-        "Labels.name_of",
-        "the name of the object that the text was printed of",
+        "line_laws::keys_name_texts",
+        "Labels.attributes_of",
+        "what the object's text says: its name and its labels",
     ),
     ("httpedge::pieces", "Runs.Steps", "the same, however bytes were cut"),
     (
@@ -371,8 +371,8 @@ def tied_part(by_law: dict[str, set[Name]], of: tuple[str, str]) -> list[str]:
         *ties(by_law),
         "",
         "## For types that aren't discovered\n",
-        "Where no type is marked as discovered, as none is that a types file declares (`api_types::files_mark_none`), a reader may skip what is said of the",
-        "mark: `discovery` (`api_request::documents_leave_places`), `Lenient` of `params` (`api_validation::words_are_read`, clause `others`: a query is then",
+        "Where types follow the profile `Plain`, as those that a file read for it declares (`api_types::files_mark_none`), a reader may skip what is said of the",
+        "others: `discovery` (`api_request::documents_leave_places`), `Lenient` of `params` (`api_validation::words_are_read`, clause `others`: a query is then",
         "read word for word), `Fields` of `selector` (`line_laws::label_selectors_ask_labels`), and dry runs (`verbs::dry_runs_change_nothing`, clause `others`).\n",
     ]
 
