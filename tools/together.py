@@ -21,14 +21,14 @@ MAIN = """
 use programs::read_arguments;
 use std::process::ExitCode;
 
-/// Whether the program is called by this name, as a file's or as a command's.
+/// Whether the program is called by this name, as a file's or as a command's; by each, where a word of it is no text.
 fn is_called(rt: &HostRuntime, file: &str, command: &str) -> bool {
     match read_arguments(rt) {
         Ok(arguments) => match arguments.first() {
             Some(path) => path.as_str().ends_with(file) || path.as_str().ends_with(command),
             None => false,
         },
-        Err(_) => false,
+        Err(_) => true,
     }
 }
 
