@@ -11,6 +11,12 @@ is_discovered Plain = false
 is_discovered Discovered = true
 is_discovered (Kubernetes epoch) = true
 
+-- whether its objects have the metadata that controllers write
+abbrev pub is_kubernetes : Profile → Bool
+is_kubernetes Plain = false
+is_kubernetes Discovered = false
+is_kubernetes (Kubernetes epoch) = true
+
 abbrev pub is_same : Profile → Profile → Bool
 is_same Plain Plain = true
 is_same Discovered Discovered = true

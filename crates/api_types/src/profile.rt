@@ -2,7 +2,7 @@
 ghost use Rattle.std.specs.Prelude.{◌≡◌, [], ◌∷◌, IfOk, codes, false};
 ghost use Rattle.schema.specs.ObjectShape.{metadata};
 ghost use Rattle.schema.specs.Shape.{keyed, list_of, map_of, shape, text};
-ghost use Rattle.api_types.specs.Profiles.{is_discovered, metadata_of, own_metadata, reference};
+ghost use Rattle.api_types.specs.Profiles.{is_discovered, is_kubernetes, metadata_of, own_metadata, reference};
 
 use schema::{ListKind, Schema};
 use std::alloc::{AllocError, Global};
@@ -25,6 +25,13 @@ impl Profile {
         ensures { result ≡ is_discovered self }
     {
         !matches!(self, Profile::Plain)
+    }
+
+    /// Whether its objects have the metadata that controllers write.
+    pub fn is_kubernetes(self) -> bool
+        ensures { result ≡ is_kubernetes self }
+    {
+        matches!(self, Profile::Kubernetes(_))
     }
 
     /// The `metadata` of types that follow it.

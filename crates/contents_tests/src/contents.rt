@@ -25,7 +25,7 @@ use crate::types_files::PLACES;
 use api_types::{Profile, Types, is_lawful};
 use fieldset::FieldSet;
 use json_texts::TextWriter;
-use ownership::{Identity, ObjectFault, Owned};
+use ownership::{Identity, ObjectFault, Owned, Stored};
 use schema::Schema;
 use serde_json::Value;
 use std::alloc::{AllocError, Global};
@@ -120,18 +120,17 @@ pub fn w1() -> Identity<'static> {
 fn printed_again(
     alloc: Global,
     schema: &Schema,
-    owned: &Owned,
-    version: u64,
+    stored: &Stored,
     text: &str,
 ) -> Result<String, Fail> {
-    let printed = owned.to_object(alloc, schema, w1(), version)?;
+    let printed = stored.owned.to_object(alloc, schema, w1(), stored.stamp())?;
     let is_same = printed.as_str() == text;
     Ok(String::from_str(alloc, if is_same { "same" } else { "another" })?)
 }
 
 fn again(alloc: Global, schema: &Schema, text: &str) -> Result<String, Fail> {
     match Owned::from_object(alloc, schema, w1(), text) {
-        Ok((owned, version)) => printed_again(alloc, schema, &owned, version, text),
+        Ok(stored) => printed_again(alloc, schema, &stored, text),
         Err(ObjectFault::NotCanonical) => Ok(String::from_str(alloc, "refused")?),
         Err(ObjectFault::Memory) => Err("no memory".into()),
     }

@@ -14,7 +14,7 @@ use crate::contents::w1;
 use crate::given::{READY_TYPES, WIDGET_TYPES, first_schema, tree, types_of};
 use api_types::Types;
 use ownership::{
-    ApplyFault, Conflict, Manager, Operation, Owned, Subresource, apply, is_same, update,
+    ApplyFault, Conflict, Manager, Operation, Owned, Stamp, Subresource, apply, is_same, update,
 };
 use schema::Schema;
 use std::alloc::{AllocError, Global};
@@ -76,7 +76,7 @@ fn body(alloc: Global, schema: &Schema, words: &str) -> Result<Tree, Fail> {
 
 /// What stands and who owns it.
 fn shown(alloc: Global, schema: &Schema, owned: &Owned) -> Result<String, AllocError> {
-    owned.to_object(alloc, schema, w1(), 4)
+    owned.to_object(alloc, schema, w1(), Stamp::plain(4))
 }
 
 fn push_conflict(alloc: Global, text: &mut String, conflict: &Conflict) -> Result<(), AllocError> {

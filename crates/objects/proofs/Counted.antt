@@ -11,21 +11,24 @@ use Rattle.typed.specs.Printing.{print}
 use Rattle.objects.specs.State.{State}
 use Rattle.objects.specs.Labels.{HasLabels, label_count, labels_of, size}
 use Rattle.objects.specs.ObjectText.{Identity, entry_items, members_printed, metadata_members, metadata_of, object_value, put_entries}
+use Rattle.objects.specs.SystemMetadata.{Stamp, put_system}
+use Rattle.objects.proofs.SystemMetadata.{past_system}
 use Rattle.objects.proofs.Taken.{apart}
 
 past_entries : (ds : Items) (ms : Members) → get_member (codes "labels") (put_entries ds ms) ≡ get_member (codes "labels") ms
 past_entries no_items ms = refl
 past_entries (item d ds) ms = get_member-put_other (codes "labels") (codes "managedFields") (array (item d ds)) ms (apart (codes "labels") (codes "managedFields") refl)
 
-pub labels_counted : (s : Shape) (of : Identity) (version : ℕ) (state : State) → label_count (object_value s of version state) ≡ size (option_and_then as_object (get_member (codes "labels") (metadata_members (print s state.content))))
+pub labels_counted : (s : Shape) (of : Identity) (stamp : Stamp) (state : State) → label_count (object_value s of stamp state) ≡ size (option_and_then as_object (get_member (codes "labels") (metadata_members (print s state.content))))
 unfolding object_value
-labels_counted s of version state =
+labels_counted s of stamp state =
     let base = members_printed (print s state.content) in
     let members = metadata_members (print s state.content) in
-    let entries = put_entries (entry_items s of.api_version (fin.entries state.owners)) members in
-    let numbered = put (codes "resourceVersion") (string (decimal version)) entries in
+    let said = put_system stamp.system members in
+    let entries = put_entries (entry_items s of.api_version (fin.entries state.owners)) said in
+    let numbered = put (codes "resourceVersion") (string (decimal stamp.version)) entries in
     let spaced = put (codes "namespace") (string of.namespace) numbered in
-    let metadata = metadata_of s of version state.owners members in
+    let metadata = metadata_of s of stamp state.owners members in
     let one = put (codes "metadata") (object metadata) base in
     let two = put (codes "kind") (string of.kind) one in
     let found =
@@ -34,10 +37,10 @@ labels_counted s of version state =
     let kept =
     get_member-put_other (codes "labels") (codes "name") (string of.name) spaced (apart (codes "labels") (codes "name") refl)
     ∙ get_member-put_other (codes "labels") (codes "namespace") (string of.namespace) numbered (apart (codes "labels") (codes "namespace") refl)
-    ∙ get_member-put_other (codes "labels") (codes "resourceVersion") (string (decimal version)) entries (apart (codes "labels") (codes "resourceVersion") refl)
-    ∙ past_entries (entry_items s of.api_version (fin.entries state.owners)) members in
+    ∙ get_member-put_other (codes "labels") (codes "resourceVersion") (string (decimal stamp.version)) entries (apart (codes "labels") (codes "resourceVersion") refl)
+    ∙ past_entries (entry_items s of.api_version (fin.entries state.owners)) said ∙ past_system (codes "labels") refl stamp.system members in
     ap (λ o. size (option_and_then labels_of o)) found ∙ ap (λ o. size (option_and_then as_object o)) kept
 
 -- a count of the members in what is printed as `metadata`
 pub has_labels : (s : Shape) (state : State) (n : ℕ) (metadata : Members) → n ≡ size (members_at (codes "labels") metadata) → metadata ≡ metadata_members (print s state.content) → HasLabels n s state
-has_labels s state n metadata counted are = λ of version. counted ∙ ap (λ ms. size (members_at (codes "labels") ms)) are ∙ sym (labels_counted s of version state)
+has_labels s state n metadata counted are = λ of stamp. counted ∙ ap (λ ms. size (members_at (codes "labels") ms)) are ∙ sym (labels_counted s of stamp state)

@@ -23,7 +23,9 @@ use Rattle.typed.specs.Printing.{object_or_none, with_member, print, print_field
 use Rattle.typed.specs.Reading.{content_of}
 use Rattle.objects.specs.ObjectText.{members_printed, put_entries}
 use Rattle.json_values.specs.Members.{less, split_off}
-use Rattle.objects.specs.Parts.{own_members, split, metadata_left, put_metadata, fields_of}
+use Rattle.objects.specs.Parts.{own_members, split, less_system, metadata_left, put_metadata, fields_of, system_in}
+use Rattle.objects.specs.SystemMetadata.{System, put_system}
+use Rattle.objects.proofs.SystemMetadata.{HasNoSystem, past_system, system_back, system_off}
 use Rattle.objects.proofs.Taken.{no_some, same_some, apart, below_apart, less_absent, less_put, put_back}
 
 -- ---- the fields of what is printed
@@ -72,9 +74,9 @@ found_field k t (field f s more) c ms up h none = by_name (bytes_eq f k) refl (f
 
 -- ---- the fields of `metadata`
 
--- none of the names that the envelope puts
+-- none of the names that the envelope and the system put
 abbrev pub HasNone : Members → Type 0
-HasNone ms = (get_member (codes "name") ms ≡ None) × (get_member (codes "namespace") ms ≡ None) × (get_member (codes "resourceVersion") ms ≡ None) × (get_member (codes "managedFields") ms ≡ None)
+HasNone ms = (get_member (codes "name") ms ≡ None) × (get_member (codes "namespace") ms ≡ None) × (get_member (codes "resourceVersion") ms ≡ None) × (get_member (codes "managedFields") ms ≡ None) × HasNoSystem ms
 
 -- nothing, or the object of these members
 abbrev pub IsPrinted : Option Data → Type 0
@@ -88,7 +90,7 @@ metadata_printed (struct_of all true) c is = absurd (true≢false (sym is.granul
 metadata_printed (struct_of all false) c is =
     let members = print_fields all c no_members in
     let none : (k : List ℕ) → is_in system_names k ≡ true → get_member k members ≡ None = λ k among. absent_field k all c no_members (no_field k (struct_of all false) among is) in
-    (members, refl, (none (codes "name") refl, none (codes "namespace") refl, none (codes "resourceVersion") refl, none (codes "managedFields") refl))
+    (members, refl, (none (codes "name") refl, none (codes "namespace") refl, none (codes "resourceVersion") refl, none (codes "managedFields") refl, (none (codes "uid") refl, none (codes "creationTimestamp") refl, none (codes "generation") refl, none (codes "deletionTimestamp") refl, none (codes "deletionGracePeriodSeconds") refl)))
 metadata_printed (map_of s b) c is = absurd (true≢false (sym is.granular))
 metadata_printed (list_of s kind) c is = absurd (true≢false (sym is.granular))
 
@@ -98,9 +100,12 @@ members_back (member k d ms) = refl
 
 -- ---- `metadata`
 
-module _ (name namespace version : List ℕ) (items : Items) (members : Members) (none : HasNone members) where
+module _ (name namespace version : List ℕ) (system : Option System) (items : Items) (members : Members) (none : HasNone members) where
+  abbrev with_system : Members
+  with_system = put_system system members
+
   abbrev with_items : Members
-  with_items = put_entries items members
+  with_items = put_entries items with_system
 
   abbrev with_version : Members
   with_version = put (codes "resourceVersion") (string version) with_items
@@ -111,33 +116,36 @@ module _ (name namespace version : List ℕ) (items : Items) (members : Members)
   abbrev pub with_name : Members
   with_name = put (codes "name") (string name) with_namespace
 
-  items_other : (ds : Items) (k : List ℕ) → (k ≡ codes "managedFields" → ⊥) → get_member k members ≡ None → get_member k (put_entries ds members) ≡ None
-  items_other no_items k other h = h
-  items_other (item d ds) k other h = get_member-put_other k (codes "managedFields") _ members other ∙ h
+  items_other : (ds : Items) (k : List ℕ) → (k ≡ codes "managedFields" → ⊥) → get_member k (put_entries ds with_system) ≡ get_member k with_system
+  items_other no_items k other = refl
+  items_other (item d ds) k other = get_member-put_other k (codes "managedFields") _ with_system other
 
-  items_off : (ds : Items) → less (codes "managedFields") (put_entries ds members) ≡ members
-  items_off no_items = less_absent (codes "managedFields") members none.3
-  items_off (item d ds) = less_put (codes "managedFields") _ members none.3
+  entries_free : get_member (codes "managedFields") with_system ≡ None
+  entries_free = past_system (codes "managedFields") refl system members ∙ none.3
+
+  items_off : (ds : Items) → less (codes "managedFields") (put_entries ds with_system) ≡ with_system
+  items_off no_items = less_absent (codes "managedFields") with_system entries_free
+  items_off (item d ds) = less_put (codes "managedFields") _ with_system entries_free
 
   version_free : get_member (codes "resourceVersion") with_items ≡ None
-  version_free = items_other items (codes "resourceVersion") (apart (codes "resourceVersion") (codes "managedFields") refl) none.2
+  version_free = items_other items (codes "resourceVersion") (apart (codes "resourceVersion") (codes "managedFields") refl) ∙ past_system (codes "resourceVersion") refl system members ∙ none.2
 
   namespace_free : get_member (codes "namespace") with_version ≡ None
   namespace_free =
       get_member-put_other (codes "namespace") (codes "resourceVersion") (string version) with_items (apart (codes "namespace") (codes "resourceVersion") refl)
-      ∙ items_other items (codes "namespace") (apart (codes "namespace") (codes "managedFields") refl) none.1
+      ∙ items_other items (codes "namespace") (apart (codes "namespace") (codes "managedFields") refl) ∙ past_system (codes "namespace") refl system members ∙ none.1
 
   name_free : get_member (codes "name") with_namespace ≡ None
   name_free =
       get_member-put_other (codes "name") (codes "namespace") (string namespace) with_version (apart (codes "name") (codes "namespace") refl)
       ∙ get_member-put_other (codes "name") (codes "resourceVersion") (string version) with_items (apart (codes "name") (codes "resourceVersion") refl)
-      ∙ items_other items (codes "name") (apart (codes "name") (codes "managedFields") refl) none.0
+      ∙ items_other items (codes "name") (apart (codes "name") (codes "managedFields") refl) ∙ past_system (codes "name") refl system members ∙ none.0
 
   pub metadata_back : metadata_left with_name ≡ members
   metadata_back =
-      ap (λ ms. less (codes "managedFields") (less (codes "resourceVersion") (less (codes "namespace") ms))) (less_put (codes "name") (string name) with_namespace name_free)
-      ∙ ap (λ ms. less (codes "managedFields") (less (codes "resourceVersion") ms)) (less_put (codes "namespace") (string namespace) with_version namespace_free)
-      ∙ ap (less (codes "managedFields")) (less_put (codes "resourceVersion") (string version) with_items version_free) ∙ items_off items
+      ap (λ ms. less_system (less (codes "managedFields") (less (codes "resourceVersion") (less (codes "namespace") ms)))) (less_put (codes "name") (string name) with_namespace name_free)
+      ∙ ap (λ ms. less_system (less (codes "managedFields") (less (codes "resourceVersion") ms))) (less_put (codes "namespace") (string namespace) with_version namespace_free)
+      ∙ ap (λ ms. less_system (less (codes "managedFields") ms)) (less_put (codes "resourceVersion") (string version) with_items version_free) ∙ ap less_system (items_off items) ∙ system_off members none.4 system
 
   other_two : (k : List ℕ) → (k ≡ codes "name" → ⊥) → (k ≡ codes "namespace" → ⊥) → get_member k with_name ≡ get_member k with_version
   other_two k one other = get_member-put_other k (codes "name") (string name) with_namespace one ∙ get_member-put_other k (codes "namespace") (string namespace) with_version other
@@ -146,6 +154,17 @@ module _ (name namespace version : List ℕ) (items : Items) (members : Members)
   version_there =
       other_two (codes "resourceVersion") (apart (codes "resourceVersion") (codes "name") refl) (apart (codes "resourceVersion") (codes "namespace") refl)
       ∙ get_member-put (codes "resourceVersion") (string version) with_items
+
+  kept : (k : List ℕ) → (k ≡ codes "name" → ⊥) → (k ≡ codes "namespace" → ⊥) → (k ≡ codes "resourceVersion" → ⊥) → (k ≡ codes "managedFields" → ⊥) → get_member k with_name ≡ get_member k with_system
+  kept k no_name no_namespace no_version no_entries =
+      other_two k no_name no_namespace ∙ get_member-put_other k (codes "resourceVersion") (string version) with_items no_version ∙ items_other items k no_entries
+
+  kept_text : (k : List ℕ) → bytes_eq k (codes "name") ≡ false → bytes_eq k (codes "namespace") ≡ false → bytes_eq k (codes "resourceVersion") ≡ false → bytes_eq k (codes "managedFields") ≡ false → get_member k with_name ≡ get_member k with_system
+  kept_text k a b c d = kept k (apart k (codes "name") a) (apart k (codes "namespace") b) (apart k (codes "resourceVersion") c) (apart k (codes "managedFields") d)
+
+  pub system_there : system_in with_name ≡ Some system
+  system_there =
+      system_back with_name members none.4 system (kept_text (codes "uid") refl refl refl refl, kept_text (codes "creationTimestamp") refl refl refl refl, kept_text (codes "generation") refl refl refl refl, kept_text (codes "deletionTimestamp") refl refl refl refl)
 
   pub items_there : get_member (codes "managedFields") with_name ≡ get_member (codes "managedFields") with_items
   items_there =

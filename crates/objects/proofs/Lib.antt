@@ -4,6 +4,7 @@ pub mod Within
 pub mod Taking
 pub mod Objects
 pub mod Taken
+pub mod SystemMetadata
 pub mod Rising
 pub mod LeafValue
 pub mod Envelopes

@@ -1,5 +1,5 @@
 -- `metadata`, member by member.
-use Rattle.std.proofs.Common.{◌≡◌, ◌++◌, ℕ, true, false, ◌&&◌, ◌==◌, nat_cmp, List, [], ◌∷◌, length, Less, String, Global, string_bytes, refl, sym, ap, ap₂, ◌∙◌, true≢false}
+use Rattle.std.proofs.Common.{◌≡◌, ◌++◌, ℕ, true, false, ◌&&◌, ◌==◌, nat_cmp, List, [], ◌∷◌, length, Option, Some, None, Less, String, Global, string_bytes, refl, sym, ap, ap₂, ◌∙◌, true≢false}
 use Rattle.std.specs.Prelude.{codes, decimal}
 use Rattle.std.specs.Cmp.Lexicographic.{slice_cmp}
 use Rattle.std.specs.Ordering.{is_lt, match_ordering, ordering_reverse}
@@ -14,9 +14,10 @@ use Rattle.json_texts.specs.Writing.{AppendsMembers, Writing, with_closing, with
 use Rattle.schema.specs.Shape.{Shape}
 use Rattle.typed.proofs.Floats.{neither}
 use Rattle.objects.specs.Appended.{then_members}
-use Rattle.objects.specs.InOrder.{are_below, then_entries, then_key_and_version}
+use Rattle.objects.specs.InOrder.{are_below, then_entries, then_key_and_version, then_uid}
 use Rattle.objects.specs.Managers.{pairs}
-use Rattle.objects.specs.ObjectText.{Identity, entry_items, metadata_with, put_entries}
+use Rattle.objects.specs.ObjectText.{Identity, entry_items, metadata_round, put_entries}
+use Rattle.objects.specs.SystemMetadata.{Stamp, System, put_uid}
 use Rattle.objects.specs.declared.managers.Entry.{Entry}
 use Rattle.objects.proofs.Appended.{member_appended, object_written}
 use Rattle.objects.proofs.EntryTexts.{none_long}
@@ -78,30 +79,46 @@ below_more k n less (member l e ms) below =
     let parts = and_parts (is_lt (slice_cmp nat_cmp l k)) (are_below k ms) below in
     ap₂ (λ a b. a && b) (ap is_lt (nat_list_cmp_total.trans l k n (lt_is (slice_cmp nat_cmp l k) parts.0) less)) (below_more k n less ms parts.1)
 
-entries_behind : (ds : Items) (ms : Members) → are_below (codes "managedFields") ms ≡ true → put_entries ds ms ≡ then_members ms (then_entries ds no_members)
-entries_behind no_items ms below = sym (then_none ms)
-entries_behind (item d ds) ms below = ap (put (codes "managedFields") (array (item d ds))) (sym (then_none ms)) ∙ put_behind (codes "managedFields") (array (item d ds)) ms no_members below
+entries_behind : (ds : Items) (ms rest : Members) → are_below (codes "managedFields") ms ≡ true → put_entries ds (then_members ms rest) ≡ then_members ms (put_entries ds rest)
+entries_behind no_items ms rest below = refl
+entries_behind (item d ds) ms rest below = put_behind (codes "managedFields") (array (item d ds)) ms rest below
 
-key_row : (of : Identity) (version : ℕ) (ds : Items)
-    → put (codes "name") (string of.name) (put (codes "namespace") (string of.namespace) (put (codes "resourceVersion") (string (decimal version)) (then_entries ds no_members))) ≡ then_entries ds (then_key_and_version of version no_members)
-key_row of version no_items = refl
-key_row of version (item d ds) = refl
+uid_behind : (system : Option System) (ms : Members) → are_below (codes "managedFields") ms ≡ true → put_uid system ms ≡ then_members ms (then_uid system no_members)
+uid_behind None ms below = sym (then_none ms)
+uid_behind (Some s) ms below =
+    ap (put (codes "uid") (string s.uid)) (sym (then_none ms)) ∙ put_behind (codes "uid") (string s.uid) ms no_members (below_more (codes "managedFields") (codes "uid") refl ms below)
 
-metadata_row : (of : Identity) (version : ℕ) (ds : Items) (ms : Members) → are_below (codes "managedFields") ms ≡ true → metadata_with of version ds ms ≡ then_members ms (then_entries ds (then_key_and_version of version no_members))
-metadata_row of version ds ms below =
-    let entries = then_entries ds no_members in
-    let numbered = put (codes "resourceVersion") (string (decimal version)) entries in
+key_row : (of : Identity) (stamp : Stamp) (ds : Items)
+    → put (codes "name") (string of.name) (put (codes "namespace") (string of.namespace) (put (codes "resourceVersion") (string (decimal stamp.version)) (put_entries ds (then_uid stamp.system no_members))))
+    ≡ then_entries ds (then_key_and_version of stamp.version (then_uid stamp.system no_members))
+key_row of stamp ds = by_system stamp.system ds
+  where
+    by_system : (system : Option System) (es : Items)
+        → put (codes "name") (string of.name) (put (codes "namespace") (string of.namespace) (put (codes "resourceVersion") (string (decimal stamp.version)) (put_entries es (then_uid system no_members))))
+        ≡ then_entries es (then_key_and_version of stamp.version (then_uid system no_members))
+    by_system None no_items = refl
+    by_system None (item d es) = refl
+    by_system (Some s) no_items = refl
+    by_system (Some s) (item d es) = refl
+
+metadata_row : (of : Identity) (stamp : Stamp) (ds : Items) (ms : Members) → are_below (codes "managedFields") ms ≡ true
+    → metadata_round of stamp ds ms ≡ then_members ms (then_entries ds (then_key_and_version of stamp.version (then_uid stamp.system no_members)))
+metadata_row of stamp ds ms below =
+    let uid = then_uid stamp.system no_members in
+    let entries = put_entries ds uid in
+    let numbered = put (codes "resourceVersion") (string (decimal stamp.version)) entries in
     let spaced = put (codes "namespace") (string of.namespace) numbered in
-    ap (λ x. put (codes "name") (string of.name) (put (codes "namespace") (string of.namespace) (put (codes "resourceVersion") (string (decimal version)) x))) (entries_behind ds ms below)
-    ∙ ap (λ x. put (codes "name") (string of.name) (put (codes "namespace") (string of.namespace) x)) (put_behind (codes "resourceVersion") (string (decimal version)) ms entries (below_more (codes "managedFields") (codes "resourceVersion") refl ms below))
+    ap (λ x. put (codes "name") (string of.name) (put (codes "namespace") (string of.namespace) (put (codes "resourceVersion") (string (decimal stamp.version)) x))) (ap (put_entries ds) (uid_behind stamp.system ms below) ∙ entries_behind ds ms uid below)
+    ∙ ap (λ x. put (codes "name") (string of.name) (put (codes "namespace") (string of.namespace) x)) (put_behind (codes "resourceVersion") (string (decimal stamp.version)) ms entries (below_more (codes "managedFields") (codes "resourceVersion") refl ms below))
     ∙ ap (put (codes "name") (string of.name)) (put_behind (codes "namespace") (string of.namespace) ms numbered (below_more (codes "managedFields") (codes "namespace") refl ms below))
-    ∙ put_behind (codes "name") (string of.name) ms spaced (below_more (codes "managedFields") (codes "name") refl ms below) ∙ ap (then_members ms) (key_row of version ds)
+    ∙ put_behind (codes "name") (string of.name) ms spaced (below_more (codes "managedFields") (codes "name") refl ms below) ∙ ap (then_members ms) (key_row of stamp ds)
 
 -- ---- the whole
 
-pub metadata_written : (of : Identity) (version : ℕ) (ds : Items) (ms : Members) → are_below (codes "managedFields") ms ≡ true → (old one two three four new : Writing) → one ≡ with_opening 123 old
-    → AppendsMembers (then_members ms) one two → AppendsMembers (then_entries ds) two three → AppendsMembers (then_key_and_version of version) three four → new ≡ with_closing 125 four → new ≡ with_text (compact_text (object (metadata_with of version ds ms))) old
-metadata_written of version ds ms below old one two three four new opened members entries key closed =
-    object_written (λ rest. then_members ms (then_entries ds (then_key_and_version of version rest))) old one four new opened
-    (λ rest. key rest ∙ entries (then_key_and_version of version rest) ∙ members (then_entries ds (then_key_and_version of version rest))) closed
-    ∙ ap (λ x. with_text (compact_text (object x)) old) (sym (metadata_row of version ds ms below))
+pub metadata_written : (of : Identity) (stamp : Stamp) (ds : Items) (ms : Members) → are_below (codes "managedFields") ms ≡ true → (old one two three four five new : Writing) → one ≡ with_opening 123 old
+    → AppendsMembers (then_members ms) one two → AppendsMembers (then_entries ds) two three → AppendsMembers (then_key_and_version of stamp.version) three four → AppendsMembers (then_uid stamp.system) four five → new ≡ with_closing 125 five
+    → new ≡ with_text (compact_text (object (metadata_round of stamp ds ms))) old
+metadata_written of stamp ds ms below old one two three four five new opened members entries key uid closed =
+    object_written (λ rest. then_members ms (then_entries ds (then_key_and_version of stamp.version (then_uid stamp.system rest)))) old one five new opened
+    (λ rest. uid rest ∙ key (then_uid stamp.system rest) ∙ entries (then_key_and_version of stamp.version (then_uid stamp.system rest)) ∙ members (then_entries ds (then_key_and_version of stamp.version (then_uid stamp.system rest)))) closed
+    ∙ ap (λ x. with_text (compact_text (object x)) old) (sym (metadata_row of stamp ds ms below))

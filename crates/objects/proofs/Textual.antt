@@ -1,6 +1,6 @@
 -- An object's value is one that its compact text spells.
 use Rattle.std.proofs.Common.{◌≡◌, ◌≤◌, ℕ, suc, true, false, nat_le, List, [], ◌∷◌, Option, Some, None, Ordering, Less, Equal, Greater, refl, sym, ap, ◌∙◌, subst, arith}
-use Rattle.std.specs.Prelude.{codes, decimal}
+use Rattle.std.specs.Prelude.{◌<◌, ◌^◌, codes, decimal}
 use Rattle.std.proofs.lemmas.Bool.{and_parts}
 use Rattle.std.specs.FinMap as fin
 use Rattle.std.specs.Ordering.{match_ordering}
@@ -23,6 +23,9 @@ use Rattle.typed.proofs.Floats.{both, neither, put_clean}
 use Rattle.typed.proofs.RoundTrip.{round}
 use Rattle.typed.proofs.Spelling.{lawful_depth, printed_textual, textual}
 use Rattle.objects.specs.State.{State}
+use Rattle.objects.specs.ReadBack.{IsCounted}
+use Rattle.objects.specs.SystemMetadata.{Stamp, System, put_deletion, put_life, put_system, whole_value}
+use Rattle.objects.proofs.SystemMetadata.{system_clean}
 use Rattle.objects.specs.ObjectText.{Identity, members_printed, metadata_members, metadata_of, put_entries, put_filled, entry_members, entry_value, entry_items, object_value}
 use Rattle.objects.specs.Owners.{Manager, Owners, operation_text, subresource_text}
 use Rattle.objects.proofs.Taken.{no_some, same_some, cmp, no_deeper, found_encodable, found_depth}
@@ -50,6 +53,23 @@ fine_text n t = (tt, refl, none_deep n)
 
 fine_object : (n : ℕ) (ms : Members) → Fine n ms → IsFine (suc n) (object ms)
 fine_object n ms h = ((h.0, h.1), h.2, one_deeper (members_depth ms) n h.3)
+
+fine_whole : (n g : ℕ) → g < 2 ^ 64 → IsFine n (whole_value g)
+fine_whole n g low = (low, refl, none_deep n)
+
+fine_system : (n : ℕ) (system : Option System) (ms : Members) → IsCounted system → Fine n ms → Fine n (put_system system ms)
+fine_system n None ms counted h = h
+fine_system n (Some s) ms counted h =
+    let generation = fine_put n (codes "generation") (whole_value s.generation) _ (fine_whole n s.generation counted) (fine_deletion s.deleted) in
+    let life = fine_put n (codes "creationTimestamp") (string s.created) _ (fine_text n s.created) generation in
+    fine_put n (codes "uid") (string s.uid) (put_life (Some s) ms) (fine_text n s.uid) life
+  where
+    no_time : 0 < 2 ^ 64
+    no_time = omega arith
+
+    fine_deletion : (deleted : Option (List ℕ)) → Fine n (put_deletion deleted ms)
+    fine_deletion None = h
+    fine_deletion (Some moment) = fine_put n (codes "deletionGracePeriodSeconds") (whole_value 0) _ (fine_whole n 0 no_time) (fine_put n (codes "deletionTimestamp") (string moment) ms (fine_text n moment) h)
 
 -- ---- what is found
 
@@ -116,16 +136,29 @@ module _ (s : Shape) (lawful : is_lawful s ≡ true) where
   entries_fine no_items members h fine = fine
   entries_fine (item d ds) members h fine = fine_put 102 (codes "managedFields") (array (item d ds)) members (h.0, h.1, one_deeper (items_depth (item d ds)) 101 h.2) fine
 
-  pub metadata_fine : (of : Identity) (version : ℕ) (owners : Owners) (members : Members) → Fine 102 members → IsFine 103 (object (metadata_of s of version owners members))
-  metadata_fine of version owners members fine =
-      let entries = entries_fine (entry_items s of.api_version (fin.entries owners)) members (items_fine of.api_version (fin.entries owners)) fine in
-      let numbered = fine_put 102 (codes "resourceVersion") (string (decimal version)) _ (fine_text 102 (decimal version)) entries in
+  metadata_fine : (of : Identity) (stamp : Stamp) (owners : Owners) (members : Members) → IsCounted stamp.system → Fine 102 members → IsFine 103 (object (metadata_of s of stamp owners members))
+  metadata_fine of stamp owners members counted fine =
+      let entries = entries_fine (entry_items s of.api_version (fin.entries owners)) (put_system stamp.system members) (items_fine of.api_version (fin.entries owners)) (fine_system 102 stamp.system members counted fine) in
+      let numbered = fine_put 102 (codes "resourceVersion") (string (decimal stamp.version)) _ (fine_text 102 (decimal stamp.version)) entries in
       let well_typed = fine_put 102 (codes "namespace") (string of.namespace) _ (fine_text 102 of.namespace) numbered in
-      fine_object 102 (metadata_of s of version owners members) (fine_put 102 (codes "name") (string of.name) _ (fine_text 102 of.name) well_typed)
+      fine_object 102 (metadata_of s of stamp owners members) (fine_put 102 (codes "name") (string of.name) _ (fine_text 102 of.name) well_typed)
+
+  entries_clean : (ds : Items) (members : Members) → items_have_float ds ≡ false → members_have_float members ≡ false → members_have_float (put_entries ds members) ≡ false
+  entries_clean no_items members h clean = clean
+  entries_clean (item d ds) members h clean = put_clean (codes "managedFields") (array (item d ds)) members h clean
+
+  -- whatever the system says
+  pub metadata_clean : (of : Identity) (stamp : Stamp) (owners : Owners) (members : Members) → members_have_float members ≡ false → has_float (object (metadata_of s of stamp owners members)) ≡ false
+  metadata_clean of stamp owners members clean =
+      let listed = put_entries (entry_items s of.api_version (fin.entries owners)) (put_system stamp.system members) in
+      let numbered = put (codes "resourceVersion") (string (decimal stamp.version)) listed in
+      let entries = entries_clean (entry_items s of.api_version (fin.entries owners)) (put_system stamp.system members) (items_fine of.api_version (fin.entries owners)).1 (system_clean stamp.system members clean) in
+      put_clean (codes "name") (string of.name) (put (codes "namespace") (string of.namespace) numbered) refl
+      (put_clean (codes "namespace") (string of.namespace) numbered refl (put_clean (codes "resourceVersion") (string (decimal stamp.version)) listed refl entries))
 
   -- ---- the object
 
-  module _ (of : Identity) (version : ℕ) (state : State) (content : IsContent s state.content) where
+  module _ (of : Identity) (stamp : Stamp) (state : State) (content : IsContent s state.content) where
     printed_fine : (d : Data) → print s state.content ≡ Some d → IsFine 100 d
     printed_fine d is =
         let formed = (and_parts (is_well_formed s) (nat_le (depth_of s) (depth_limit s)) lawful).0 in
@@ -141,11 +174,20 @@ module _ (s : Shape) (lawful : is_lawful s ≡ true) where
         let base = members_printed (print s state.content) in
         fine_more 100 102 (metadata_members (print s state.content)) (omega arith) (fine_printed 100 (get_member (codes "metadata") base) (fine_found 100 (codes "metadata") base base_fine))
 
-    pub value_textual : IsTextual (object_value s of version state)
+    pub value_clean : has_float (object_value s of stamp state) ≡ false
     unfolding object_value
-    value_textual =
+    value_clean =
         let base = members_printed (print s state.content) in
-        let metadata = metadata_fine of version state.owners (metadata_members (print s state.content)) metadata_members_fine in
+        let metadata = object (metadata_of s of stamp state.owners (metadata_members (print s state.content))) in
+        let inner = put (codes "metadata") metadata base in
+        let one = put_clean (codes "metadata") metadata base (metadata_clean of stamp state.owners (metadata_members (print s state.content)) metadata_members_fine.2) base_fine.2 in
+        put_clean (codes "apiVersion") (string of.api_version) (put (codes "kind") (string of.kind) inner) refl (put_clean (codes "kind") (string of.kind) inner refl one)
+
+    pub value_textual : IsCounted stamp.system → IsTextual (object_value s of stamp state)
+    unfolding object_value
+    value_textual counted =
+        let base = members_printed (print s state.content) in
+        let metadata = metadata_fine of stamp state.owners (metadata_members (print s state.content)) counted metadata_members_fine in
         let one = fine_put 103 (codes "metadata") _ base metadata (fine_more 100 103 base (omega arith) base_fine) in
         let two = fine_put 103 (codes "kind") (string of.kind) _ (fine_text 103 of.kind) one in
         let whole = fine_object 103 _ (fine_put 103 (codes "apiVersion") (string of.api_version) _ (fine_text 103 of.api_version) two) in

@@ -19,6 +19,7 @@ use Rattle.typed.proofs.KeyFields.{AreRising, ascend_rising}
 use Rattle.typed.proofs.Rows.{struct_row}
 use Rattle.objects.specs.InOrder.{then_type}
 use Rattle.objects.specs.State.{State}
+use Rattle.objects.specs.SystemMetadata.{Stamp}
 use Rattle.objects.specs.ObjectText.{Identity, members_printed, metadata_members, metadata_of, object_text, object_value}
 use Rattle.objects.proofs.Appended.{member_appended, object_written}
 use Rattle.objects.proofs.Between.{above_below, below_twice, rising_between}
@@ -76,15 +77,15 @@ module _ (all : Fields) (formed : is_well_formed (struct_of all false) ≡ true)
       ap (λ ms. put (codes "apiVersion") (string of.api_version) (put (codes "kind") (string of.kind) ms)) (ap (put (codes "metadata") (object metadata)) base_row ∙ put_between (codes "metadata") (object metadata) c no_members tt all rise)
       ∙ ap (put (codes "apiVersion") (string of.api_version)) kind_put ∙ version_put
 
-pub struct_written : (all : Fields) (of : Identity) (version : ℕ) (state : State) → is_well_formed (struct_of all false) ≡ true → (old one two three four five new : Writing) → one ≡ with_opening 123 old
+pub struct_written : (all : Fields) (of : Identity) (stamp : Stamp) (state : State) → is_well_formed (struct_of all false) ≡ true → (old one two three four five new : Writing) → one ≡ with_opening 123 old
     → AppendsMembers (then_type of all state.content) one two → three ≡ with_name (codes "metadata") two
-    → four ≡ with_text (compact_text (object (metadata_of (struct_of all false) of version state.owners (metadata_members (print (struct_of all false) state.content))))) three
-    → AppendsMembers (then_fields (fields_between (Some (codes "metadata")) None all) state.content) four five → new ≡ with_closing 125 five → new ≡ with_text (object_text (struct_of all false) of version state) old
+    → four ≡ with_text (compact_text (object (metadata_of (struct_of all false) of stamp state.owners (metadata_members (print (struct_of all false) state.content))))) three
+    → AppendsMembers (then_fields (fields_between (Some (codes "metadata")) None all) state.content) four five → new ≡ with_closing 125 five → new ≡ with_text (object_text (struct_of all false) of stamp state) old
 unfolding object_text object_value
-struct_written all of version state formed old one two three four five new opened types name value last closed =
+struct_written all of stamp state formed old one two three four five new opened types name value last closed =
     let s = struct_of all false in
     let c = state.content in
-    let metadata = metadata_of s of version state.owners (metadata_members (print s c)) in
+    let metadata = metadata_of s of stamp state.owners (metadata_members (print s c)) in
     let behind = then_fields (fields_between (Some (codes "metadata")) None all) c in
     object_written (λ rest. then_type of all c (member (codes "metadata") (object metadata) (behind rest))) old one five new opened
     (λ rest. last rest ∙ member_appended (codes "metadata") (object metadata) two three four name value (behind rest) ∙ types (member (codes "metadata") (object metadata) (behind rest))) closed

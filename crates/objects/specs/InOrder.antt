@@ -1,5 +1,5 @@
 -- For private clauses: an object and its `metadata`, member by member in byte order of their names.
-use Rattle.std.specs.Prelude.{ℕ, Bool, true, ◌&&◌, List, Some, None, codes, decimal}
+use Rattle.std.specs.Prelude.{ℕ, Bool, true, ◌&&◌, List, Option, Some, None, codes, decimal}
 use Rattle.std.specs.Cmp.Lexicographic.{slice_cmp}
 use Rattle.std.specs.Ordering.{is_lt, nat_cmp}
 use Rattle.serde_json.specs.Data.{string, array, Items, no_items, item, Members, no_members, member}
@@ -7,6 +7,7 @@ use Rattle.pathmap.specs.Contents.{Content}
 use Rattle.schema.specs.Shape.{Fields}
 use Rattle.typed.specs.Between.{fields_between, then_fields}
 use Rattle.objects.specs.ObjectText.{Identity}
+use Rattle.objects.specs.SystemMetadata.{System}
 
 -- each name lies below this one
 abbrev pub are_below : List ℕ → Members → Bool
@@ -21,6 +22,11 @@ then_entries (item d ds) rest = member (codes "managedFields") (array (item d ds
 -- key and version
 abbrev pub then_key_and_version : Identity → ℕ → Members → Members
 then_key_and_version of version rest = member (codes "name") (string of.name) (member (codes "namespace") (string of.namespace) (member (codes "resourceVersion") (string (decimal version)) rest))
+
+-- the uid, where the system says one
+abbrev pub then_uid : Option System → Members → Members
+then_uid None rest = rest
+then_uid (Some s) rest = member (codes "uid") (string s.uid) rest
 
 -- the fields up to `metadata`, with the type among them
 abbrev pub then_type : Identity → Fields → Content → Members → Members

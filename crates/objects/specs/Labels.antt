@@ -6,6 +6,7 @@ use Rattle.serde_json.specs.Find.{as_object, get}
 use Rattle.schema.specs.Shape.{Shape}
 use Rattle.objects.specs.ObjectText.{Identity, object_value}
 use Rattle.objects.specs.State.{State}
+use Rattle.objects.specs.SystemMetadata.{Stamp}
 
 abbrev pub size : Option Members → ℕ
 size None = 0
@@ -18,6 +19,6 @@ labels_of metadata = option_and_then as_object (get (codes "labels") metadata)
 abbrev pub label_count : Data → ℕ
 label_count d = size (option_and_then labels_of (get (codes "metadata") d))
 
--- an object of this state has so many, whatever its key and version
+-- an object of this state has so many, whatever its key is and what the system says
 abbrev pub HasLabels : ℕ → Shape → State → Type 0
-HasLabels n s state = (of : Identity) (version : ℕ) → n ≡ label_count (object_value s of version state)
+HasLabels n s state = (of : Identity) (stamp : Stamp) → n ≡ label_count (object_value s of stamp state)

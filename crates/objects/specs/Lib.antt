@@ -2,6 +2,7 @@ pub mod Owners
 pub mod Codes
 pub mod Managers
 pub mod State
+pub mod SystemMetadata
 pub mod Ranks
 pub mod WellTyped
 pub mod ObjectText

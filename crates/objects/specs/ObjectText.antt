@@ -10,6 +10,7 @@ use Rattle.schema.specs.Shape.{Shape}
 use Rattle.typed.specs.Printing.{print}
 use Rattle.objects.specs.Owners.{Manager, Owners, operation_text, subresource_text}
 use Rattle.objects.specs.State.{State}
+use Rattle.objects.specs.SystemMetadata.{Stamp, put_life, put_uid}
 
 -- an object's type (`group/version`, kind), namespace and name
 pub record Identity : Type 0 where
@@ -51,13 +52,17 @@ abbrev pub put_entries : Items → Members → Members
 put_entries no_items ms = ms
 put_entries (item d ds) ms = put (codes "managedFields") (array (item d ds)) ms
 
--- `metadata` with these entries
-abbrev pub metadata_with : Identity → ℕ → Items → Members → Members
-metadata_with of version entries members =
-    put (codes "name") (string of.name) (put (codes "namespace") (string of.namespace) (put (codes "resourceVersion") (string (decimal version)) (put_entries entries members)))
+-- `metadata` with these entries, round what is printed of it and the object's life
+abbrev pub metadata_round : Identity → Stamp → Items → Members → Members
+metadata_round of stamp entries members =
+    put (codes "name") (string of.name) (put (codes "namespace") (string of.namespace) (put (codes "resourceVersion") (string (decimal stamp.version)) (put_entries entries (put_uid stamp.system members))))
 
-abbrev pub metadata_of : Shape → Identity → ℕ → Owners → Members → Members
-metadata_of s of version owners members = metadata_with of version (entry_items s of.api_version (fin.entries owners)) members
+-- .. and round what is printed of it
+abbrev pub metadata_with : Identity → Stamp → Items → Members → Members
+metadata_with of stamp entries members = metadata_round of stamp entries (put_life stamp.system members)
+
+abbrev pub metadata_of : Shape → Identity → Stamp → Owners → Members → Members
+metadata_of s of stamp owners members = metadata_with of stamp (entry_items s of.api_version (fin.entries owners)) members
 
 -- the members of what is printed; none where nothing is
 abbrev pub members_printed : Option Data → Members
@@ -67,14 +72,14 @@ members_printed d = members_or_none (option_and_then as_object d)
 abbrev pub metadata_members : Option Data → Members
 metadata_members d = members_printed (get_member (codes "metadata") (members_printed d))
 
-abbrev pub with_envelope : Shape → Identity → ℕ → Owners → Option Data → Data
-with_envelope s of version owners printed =
+abbrev pub with_envelope : Shape → Identity → Stamp → Owners → Option Data → Data
+with_envelope s of stamp owners printed =
     object (put (codes "apiVersion") (string of.api_version) (put (codes "kind") (string of.kind)
-    (put (codes "metadata") (object (metadata_of s of version owners (metadata_members printed))) (members_printed printed))))
+    (put (codes "metadata") (object (metadata_of s of stamp owners (metadata_members printed))) (members_printed printed))))
 
--- the object: envelope, content, version and entries
-unfoldable pub object_value : Shape → Identity → ℕ → State → Data
-object_value s of version state = with_envelope s of version state.owners (print s state.content)
+-- the object: envelope, content, what the system says, and entries
+unfoldable pub object_value : Shape → Identity → Stamp → State → Data
+object_value s of stamp state = with_envelope s of stamp state.owners (print s state.content)
 
-unfoldable pub object_text : Shape → Identity → ℕ → State → List ℕ
-object_text s of version state = compact_text (object_value s of version state)
+unfoldable pub object_text : Shape → Identity → Stamp → State → List ℕ
+object_text s of stamp state = compact_text (object_value s of stamp state)

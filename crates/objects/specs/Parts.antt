@@ -6,8 +6,8 @@ use Rattle.std.specs.FinMap as fin
 use Rattle.std.specs.List.{list_all}
 use Rattle.std.specs.Str.{bytes_eq}
 use Rattle.serde_json.specs.Data.{Data, object, Items, no_items, item, Members, no_members, member, put}
-use Rattle.serde_json.specs.Find.{get_member, as_object, as_array, as_str}
-use Rattle.json_values.specs.Members.{less, split_off, text_at}
+use Rattle.serde_json.specs.Find.{get_member, as_object, as_array, as_str, as_number, as_u64}
+use Rattle.json_values.specs.Members.{has, less, split_off, text_at}
 use Rattle.names.specs.Decimals.{version_of}
 use Rattle.pathmap.specs.Beside.{is_within}
 use Rattle.pathmap.specs.Contents.{PathSet}
@@ -21,6 +21,7 @@ use Rattle.objects.specs.declared.manager.Operation.TheVariants.{Apply, Update}
 use Rattle.objects.specs.declared.manager.Subresource.{Subresource}
 use Rattle.objects.specs.declared.manager.Subresource.TheVariants.{Main, Status}
 use Rattle.objects.specs.State.{State}
+use Rattle.objects.specs.SystemMetadata.{Stamp, System}
 use Rattle.fieldset.specs.FieldsV1.{Refusal, read_fields_v1}
 use Rattle.objects.specs.Owners.{Manager, Owners, manager_by}
 use Rattle.objects.specs.Ranks.{have_paths, rising}
@@ -51,9 +52,45 @@ split d = option_and_then (λ ms. split_off (codes "metadata") (own_members ms))
 abbrev pub version_in : Members → Option ℕ
 version_in metadata = option_and_then version_of (text_at (codes "resourceVersion") metadata)
 
--- labels and annotations
+-- a text, or none where it is absent; nothing is read of another value
+abbrev pub text_or_none : Option Data → Option (Option (List ℕ))
+text_or_none None = Some None
+text_or_none (Some d) = option_map Some (as_str d)
+
+abbrev pub generation_in : Members → Option ℕ
+generation_in metadata = option_and_then as_u64 (option_and_then as_number (get_member (codes "generation") metadata))
+
+-- what the system says, of this uid
+abbrev pub system_of_uid : List ℕ → Members → Option System
+system_of_uid uid metadata =
+    option_and_then (λ created. option_and_then (λ generation. option_map (λ deleted. record { uid = uid; created = created; generation = generation; deleted = deleted })
+    (text_or_none (get_member (codes "deletionTimestamp") metadata))) (generation_in metadata)) (text_at (codes "creationTimestamp") metadata)
+
+abbrev pub system_if : Option (List ℕ) → Members → Option (Option System)
+system_if None metadata = Some None
+system_if (Some uid) metadata = option_map Some (system_of_uid uid metadata)
+
+-- nothing where there is no uid
+abbrev pub system_in : Members → Option (Option System)
+system_in metadata = option_and_then (λ uid. system_if uid metadata) (text_or_none (get_member (codes "uid") metadata))
+
+-- what the system says of the object
+abbrev pub stamp_in : Members → Option Stamp
+stamp_in metadata = option_and_then (λ version. option_map (λ system. record { version = version; system = system }) (system_in metadata)) (version_in metadata)
+
+abbrev pub less_life : Members → Members
+less_life metadata = less (codes "deletionTimestamp") (less (codes "deletionGracePeriodSeconds") (less (codes "generation") (less (codes "creationTimestamp") metadata)))
+
+abbrev pub less_life_if : Bool → Members → Members
+less_life_if there metadata = if there then less_life metadata else metadata
+
+-- without what the system says beside the version
+abbrev pub less_system : Members → Members
+less_system metadata = less_life_if (has (codes "uid") metadata) (less (codes "uid") metadata)
+
+-- what is printed of the content
 abbrev pub metadata_left : Members → Members
-metadata_left metadata = less (codes "managedFields") (less (codes "resourceVersion") (less (codes "namespace") (less (codes "name") metadata)))
+metadata_left metadata = less_system (less (codes "managedFields") (less (codes "resourceVersion") (less (codes "namespace") (less (codes "name") metadata))))
 
 -- `metadata`, where something is left in it
 abbrev pub put_metadata : Members → Members → Members
@@ -121,15 +158,15 @@ owners_in s metadata = option_and_then owners_of (entries_listed s (get_member (
 abbrev pub fields_of : Members → Members → Data
 fields_of others metadata = object (put_metadata (metadata_left metadata) others)
 
-abbrev pub state_with : Shape → Members → Members → ℕ → Option (State × ℕ)
-state_with s others metadata version =
-    option_and_then (λ owners. option_map (λ c. (record { content = c; owners = owners }, version)) (if_read (content_of s (fields_of others metadata)))) (owners_in s metadata)
+abbrev pub state_with : Shape → Members → Members → Stamp → Option (State × Stamp)
+state_with s others metadata stamp =
+    option_and_then (λ owners. option_map (λ c. (record { content = c; owners = owners }, stamp)) (if_read (content_of s (fields_of others metadata)))) (owners_in s metadata)
 
-abbrev pub parts_of : Shape → Members × Members → Option (State × ℕ)
-parts_of s p = option_and_then (state_with s p.0 p.1) (version_in p.1)
+abbrev pub parts_of : Shape → Members × Members → Option (State × Stamp)
+parts_of s p = option_and_then (state_with s p.0 p.1) (stamp_in p.1)
 
--- what stands in a value and who owns it, and its version
-abbrev pub parts_in : Shape → Data → Option (State × ℕ)
+-- what stands in a value and who owns it, and what the system says of it
+abbrev pub parts_in : Shape → Data → Option (State × Stamp)
 parts_in s d = option_and_then (parts_of s) (split d)
 
 abbrev pub all_within : PathSet → List (Manager × PathSet) → Bool

@@ -5,7 +5,7 @@ ghost use Rattle.json.specs.Value.{members_view, value_view};
 ghost use Rattle.json_texts.specs.InOrder.{are_ordered, data_of, is_ordered};
 ghost use Rattle.json_values.specs.Members.{split_off};
 ghost use Rattle.objects.specs.Borrowed.{AreOthers, data_in, place_in};
-ghost use Rattle.objects.specs.Parts.{fields_of, metadata_left, own_members, put_metadata, split, version_in};
+ghost use Rattle.objects.specs.Parts.{fields_of, less_life, less_system, metadata_left, own_members, put_metadata, split, version_in};
 
 use json::Value;
 use json_texts::{Members, into_object, take, text_at};
@@ -63,7 +63,34 @@ pub(crate) fn version_in<'a>(metadata: &[(&'a str, Value<'a>)]) -> Option<u64>
     }
 }
 
-/// `metadata` without the envelope's part: labels and annotations.
+/// `metadata` without creation, generation and deletion.
+fn less_life(metadata: Members<'_>) -> Members<'_>
+    requires { are_ordered (members_view metadata.items) ≡ true }
+    ensures left { data_in result.items ≡ less_life (data_in metadata.entry.items) }
+    ensures ordered { are_ordered (members_view result.items) ≡ true }
+{
+    let mut left = metadata;
+    drop(take(&mut left, "creationTimestamp"));
+    drop(take(&mut left, "generation"));
+    drop(take(&mut left, "deletionGracePeriodSeconds"));
+    drop(take(&mut left, "deletionTimestamp"));
+    left
+}
+
+/// `metadata` without what the system says beside the version.
+fn less_system(metadata: Members<'_>) -> Members<'_>
+    requires { are_ordered (members_view metadata.items) ≡ true }
+    ensures left { data_in result.items ≡ less_system (data_in metadata.entry.items) }
+    ensures ordered { are_ordered (members_view result.items) ≡ true }
+{
+    let mut left = metadata;
+    match take(&mut left, "uid") {
+        Some(_) => less_life(left),
+        None => left,
+    }
+}
+
+/// `metadata` without the envelope's part: what is printed of the content.
 fn metadata_left(metadata: Members<'_>) -> Members<'_>
     requires { are_ordered (members_view metadata.items) ≡ true }
     ensures left { data_in result.items ≡ metadata_left (data_in metadata.entry.items) }
@@ -74,7 +101,7 @@ fn metadata_left(metadata: Members<'_>) -> Members<'_>
     drop(take(&mut left, "namespace"));
     drop(take(&mut left, "resourceVersion"));
     drop(take(&mut left, "managedFields"));
-    left
+    less_system(left)
 }
 
 /// How many members stand before the place of this name.

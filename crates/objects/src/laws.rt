@@ -4,7 +4,8 @@
 ghost use Rattle.objects.specs.FieldTextLaws.{FieldsV1IsTextual};
 ghost use Rattle.objects.specs.ReadBack.{OneForOne};
 
-/// An object's text says one version, one content and its owners: no other object of the type and key has this text.
+/// An object's text says one version and what else the system says, one content and its owners: no other object of the
+/// type and key has this text.
 pub fn objects_are_one_for_one()
     ensures { OneForOne }
 {}

@@ -1,4 +1,4 @@
-//! An object, printed as a value: its version, its content and who owns what. Its text is written in `object_text`.
+//! An object, printed as a value: what the system says, its content and who owns what. Its text is written in `object_text`.
 
 ghost use Rattle.std.specs.Prelude.{◌≡◌, IfOk, OnOk, option_map, option_and_then};
 ghost use Rattle.std.specs.FinMap as fin;
@@ -7,12 +7,13 @@ ghost use Rattle.serde_json.specs.Find.{as_object};
 ghost use Rattle.serde_json.specs.View.{items_view, members_view, view};
 ghost use Rattle.schema.specs.Shape.{shape};
 ghost use Rattle.objects.specs.Managers.{pair, pairs, manager_view};
-ghost use Rattle.objects.specs.ObjectText.{entry_items, entry_value, members_or_none, members_with, metadata_members, metadata_with, object_value, put_entries, put_filled, put_manager};
-ghost use Rattle.objects.specs.Views.{identity_of, state_of};
+ghost use Rattle.objects.specs.ObjectText.{entry_items, entry_value, members_or_none, members_with, metadata_members, metadata_round, object_value, put_entries, put_filled, put_manager};
+ghost use Rattle.objects.specs.Views.{identity_of, stamp_of, state_of};
 
 use crate::manager::Manager;
 use crate::managers::Entry;
 use crate::owned::Owned;
+use crate::system::Stamp;
 use schema::Schema;
 use serde_json::{Map, Value};
 use std::alloc::{AllocError, Global};
@@ -27,11 +28,11 @@ pub struct Identity<'a> {
     pub name: &'a str,
 }
 
-/// What stands round an object's fields: its type, its key and its version.
+/// What stands round an object's fields: its type, its key and what the system says.
 #[derive(Clone, Copy)]
 pub(crate) struct Envelope<'a> {
     pub(crate) of: Identity<'a>,
-    pub(crate) version: u64,
+    pub(crate) stamp: Stamp<'a>,
 }
 
 /// Puts a text, unless it is empty.
@@ -143,7 +144,7 @@ fn into_members(alloc: Global, value: Value) -> Map<String, Value>
 }
 
 /// Puts a text.
-fn put_text(
+pub(crate) fn put_text(
     members: &mut Map<String, Value>,
     alloc: Global,
     name: &str,
@@ -168,19 +169,20 @@ fn put_entries(
     serde_json::put(members, alloc, "managedFields", Value::Array(entries))
 }
 
-/// `metadata` with these items of `managedFields`.
-pub(crate) fn metadata_with(
+/// `metadata` with these items of `managedFields`, where the object's life is among its members.
+pub(crate) fn metadata_round(
     alloc: Global,
-    of: Identity<'_>,
-    version: u64,
+    envelope: Envelope<'_>,
     items: Vec<Value>,
     metadata_members: Map<String, Value>,
 ) -> Result<Map<String, Value>, AllocError>
-    ensures { IfOk result (λ m. members_view m.entries ≡ metadata_with (identity_of of.entry) version (items_view items.items) (members_view metadata_members.entries)) }
+    ensures { IfOk result (λ m. members_view m.entries ≡ metadata_round (identity_of envelope.entry.of) (stamp_of envelope.entry.stamp) (items_view items.items) (members_view metadata_members.entries)) }
 {
+    let of = envelope.of;
     let mut metadata = metadata_members;
+    envelope.stamp.put_uid(&mut metadata, alloc)?;
     put_entries(&mut metadata, alloc, items)?;
-    let version = version.to_string(alloc)?;
+    let version = envelope.stamp.version.to_string(alloc)?;
     put_text(&mut metadata, alloc, "resourceVersion", version.as_str())?;
     put_text(&mut metadata, alloc, "namespace", of.namespace)?;
     put_text(&mut metadata, alloc, "name", of.name)?;
@@ -206,34 +208,34 @@ impl Owned {
         &self,
         alloc: Global,
         schema: &Schema,
-        of: Identity<'_>,
-        version: u64,
+        envelope: Envelope<'_>,
         items: Vec<Value>,
     ) -> Result<Value, AllocError>
-        ensures { items_view items.items ≡ entry_items (shape schema.now) of.entry.api_version.now (fin.entries self.now.managers)
-            → IfOk result (λ v. view v ≡ object_value (shape schema.now) (identity_of of.entry) version (state_of self.now)) }
+        ensures { items_view items.items ≡ entry_items (shape schema.now) envelope.entry.of.api_version.now (fin.entries self.now.managers)
+            → IfOk result (λ v. view v ≡ object_value (shape schema.now) (identity_of envelope.entry.of) (stamp_of envelope.entry.stamp) (state_of self.now)) }
     {
         let printed = self.tree.to_value(alloc, schema)?;
-        let metadata_members = metadata_members(alloc, &printed)?;
-        let metadata = metadata_with(alloc, of, version, items, metadata_members)?;
+        let mut metadata_members = metadata_members(alloc, &printed)?;
+        envelope.stamp.put_life(&mut metadata_members, alloc)?;
+        let metadata = metadata_round(alloc, envelope, items, metadata_members)?;
         let mut members = members_of(alloc, printed);
         serde_json::put(&mut members, alloc, "metadata", Value::Object(metadata))?;
-        put_text(&mut members, alloc, "kind", of.kind)?;
-        put_text(&mut members, alloc, "apiVersion", of.api_version)?;
+        put_text(&mut members, alloc, "kind", envelope.of.kind)?;
+        put_text(&mut members, alloc, "apiVersion", envelope.of.api_version)?;
         Ok(Value::Object(members))
     }
 
-    /// The object: its envelope, its content, its version and who owns what.
+    /// The object: its envelope, its content, what the system says and who owns what.
     pub fn to_value(
         &self,
         alloc: Global,
         schema: &Schema,
         of: Identity<'_>,
-        version: u64,
+        stamp: Stamp<'_>,
     ) -> Result<Value, AllocError>
-        ensures { IfOk result (λ v. view v ≡ object_value (shape schema.now) (identity_of of.entry) version (state_of self.now)) }
+        ensures { IfOk result (λ v. view v ≡ object_value (shape schema.now) (identity_of of.entry) (stamp_of stamp.entry) (state_of self.now)) }
     {
         let items = self.items(alloc, schema, of.api_version)?;
-        self.value_with(alloc, schema, of, version, items)
+        self.value_with(alloc, schema, Envelope { of, stamp }, items)
     }
 }

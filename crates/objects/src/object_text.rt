@@ -11,12 +11,13 @@ ghost use Rattle.objects.specs.InOrder.{then_type};
 ghost use Rattle.objects.specs.Labels.{HasLabels};
 ghost use Rattle.objects.specs.ObjectText as texts;
 ghost use Rattle.objects.specs.ObjectText.{object_text};
-ghost use Rattle.objects.specs.Views.{identity_of, state_of};
+ghost use Rattle.objects.specs.Views.{identity_of, stamp_of, state_of};
 
 use crate::labels::count_labels;
 use crate::managed_text::write_string;
 use crate::object::{Envelope, Identity};
 use crate::owned::Owned;
+use crate::system::Stamp;
 use json_texts::TextWriter;
 use schema::Schema;
 use serde_json::{Map, Value};
@@ -54,9 +55,9 @@ impl Owned {
         envelope: Envelope<'_>,
     ) -> Result<(), AllocError>
         ensures { is_lawful (shape schema.now) ≡ true → IsContent (shape schema.now) self.now.tree
-            → OnOk result (out.new ≡ with_text (object_text (shape schema.now) (identity_of envelope.entry.of) envelope.entry.version (state_of self.now)) out.old) }
+            → OnOk result (out.new ≡ with_text (object_text (shape schema.now) (identity_of envelope.entry.of) (stamp_of envelope.entry.stamp) (state_of self.now)) out.old) }
     {
-        let value = self.to_value(alloc, schema, envelope.of, envelope.version)?;
+        let value = self.to_value(alloc, schema, envelope.of, envelope.stamp)?;
         out.value(alloc, &value)
     }
 
@@ -70,7 +71,7 @@ impl Owned {
         metadata_members: Map<String, Value>,
     ) -> Result<(), AllocError>
         ensures { is_lawful (shape schema.now) ≡ true → IsContent (shape schema.now) self.now.tree → members_view metadata_members.entries ≡ texts.metadata_members (print (shape schema.now) self.now.tree)
-            → OnOk result (out.new ≡ with_text (object_text (shape schema.now) (identity_of envelope.entry.of) envelope.entry.version (state_of self.now)) out.old) }
+            → OnOk result (out.new ≡ with_text (object_text (shape schema.now) (identity_of envelope.entry.of) (stamp_of envelope.entry.stamp) (state_of self.now)) out.old) }
     {
         let Some(fields) = schema.granular_fields() else {
             return self.write_value(out, alloc, schema, envelope);
@@ -94,7 +95,7 @@ impl Owned {
         capacity: usize,
     ) -> Result<String, AllocError>
         ensures { is_lawful (shape schema.now) ≡ true → IsContent (shape schema.now) self.now.tree → members_view metadata_members.entries ≡ texts.metadata_members (print (shape schema.now) self.now.tree)
-            → IfOk result (λ t. string_bytes t ≡ object_text (shape schema.now) (identity_of envelope.entry.of) envelope.entry.version (state_of self.now)) }
+            → IfOk result (λ t. string_bytes t ≡ object_text (shape schema.now) (identity_of envelope.entry.of) (stamp_of envelope.entry.stamp) (state_of self.now)) }
     {
         let mut out = TextWriter::with_capacity(alloc, capacity)?;
         self.write_object(&mut out, alloc, schema, envelope, metadata_members)?;
@@ -110,27 +111,28 @@ impl Owned {
         capacity: usize,
     ) -> Result<String, AllocError>
         ensures { is_lawful (shape schema.now) ≡ true → IsContent (shape schema.now) self.now.tree
-            → IfOk result (λ t. string_bytes t ≡ object_text (shape schema.now) (identity_of envelope.entry.of) envelope.entry.version (state_of self.now)) }
+            → IfOk result (λ t. string_bytes t ≡ object_text (shape schema.now) (identity_of envelope.entry.of) (stamp_of envelope.entry.stamp) (state_of self.now)) }
     {
         let metadata_members = self.printed_metadata(alloc, schema)?;
         self.text_with(alloc, schema, envelope, metadata_members, capacity)
     }
 
-    /// The object's text as `to_object` answers it, and how many labels it has, whatever its key and version: of one print.
+    /// The object's text as `to_object` answers it, and how many labels it has, whatever its key is and what the
+    /// system says: of one print.
     pub fn to_object_with_labels(
         &self,
         alloc: Global,
         schema: &Schema,
         of: Identity<'_>,
-        version: u64,
+        stamp: Stamp<'_>,
     ) -> Result<(String, usize), AllocError>
         ensures text { is_lawful (shape schema.now) ≡ true → IsContent (shape schema.now) self.now.tree
-            → IfOk result (λ p. string_bytes p.0 ≡ object_text (shape schema.now) (identity_of of.entry) version (state_of self.now)) }
+            → IfOk result (λ p. string_bytes p.0 ≡ object_text (shape schema.now) (identity_of of.entry) (stamp_of stamp.entry) (state_of self.now)) }
         ensures labels { is_lawful (shape schema.now) ≡ true → IfOk result (λ p. HasLabels p.1 (shape schema.now) (state_of self.now)) }
     {
         let metadata_members = self.printed_metadata(alloc, schema)?;
         let labels = count_labels(&metadata_members);
-        let envelope = Envelope { of, version };
+        let envelope = Envelope { of, stamp };
         let text = self.text_with(alloc, schema, envelope, metadata_members, ROOM)?;
         Ok((text, labels))
     }
@@ -141,11 +143,11 @@ impl Owned {
         alloc: Global,
         schema: &Schema,
         of: Identity<'_>,
-        version: u64,
+        stamp: Stamp<'_>,
     ) -> Result<String, AllocError>
         ensures { is_lawful (shape schema.now) ≡ true → IsContent (shape schema.now) self.now.tree
-            → IfOk result (λ t. string_bytes t ≡ object_text (shape schema.now) (identity_of of.entry) version (state_of self.now)) }
+            → IfOk result (λ t. string_bytes t ≡ object_text (shape schema.now) (identity_of of.entry) (stamp_of stamp.entry) (state_of self.now)) }
     {
-        self.sized_text(alloc, schema, Envelope { of, version }, ROOM)
+        self.sized_text(alloc, schema, Envelope { of, stamp }, ROOM)
     }
 }

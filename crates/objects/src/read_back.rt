@@ -1,17 +1,19 @@
 //! Objects read back from their texts, which are written in `object_text`. The envelope is separated in `envelope`.
-ghost use Rattle.std.specs.Prelude.{◌≡◌, ℕ, true, IfOk};
+ghost use Rattle.std.specs.Prelude.{◌≡◌, true, IfOk, option_map};
 ghost use Rattle.std.specs.Str.{bytes_eq};
-ghost use Rattle.json.specs.Value.{value_view};
-ghost use Rattle.json_texts.specs.InOrder.{data_of, in_order, is_ordered};
+ghost use Rattle.json.specs.Value.{members_view, value_view};
+ghost use Rattle.json_texts.specs.InOrder.{are_ordered, data_of, in_order, is_ordered};
 ghost use Rattle.schema.specs.ObjectShape.{IsObjectShape};
 ghost use Rattle.schema.specs.Shape.{shape};
 ghost use Rattle.typed.specs.Reading.{content_of};
+ghost use Rattle.objects.specs.Borrowed.{data_in};
 ghost use Rattle.objects.specs.State.{State};
+ghost use Rattle.objects.specs.SystemMetadata as said;
 ghost use Rattle.objects.specs.WellTyped.{OwnedArePresent};
 ghost use Rattle.objects.specs.Managers.{pairs};
-ghost use Rattle.objects.specs.Parts.{Returns, all_within, if_read, parts_in};
+ghost use Rattle.objects.specs.Parts.{Returns, all_within, if_read, parts_in, stamp_in};
 ghost use Rattle.objects.specs.ReadBack.{IsReadBack};
-ghost use Rattle.objects.specs.Views.{identity_of, state_of};
+ghost use Rattle.objects.specs.Views.{identity_of, state_of, stored_stamp, system_of};
 ghost use Rattle.pathmap.specs.Contents.{dom};
 
 use crate::changes::has_all;
@@ -21,6 +23,8 @@ use crate::managed_fields::read_owners;
 use crate::managers::Entry;
 use crate::object::{Envelope, Identity};
 use crate::owned::Owned;
+use crate::system::{Stored, System};
+use crate::system_read::read_system;
 use json::{Scratch, Value};
 use schema::Schema;
 use std::alloc::Global;
@@ -52,21 +56,39 @@ fn read_content(alloc: Global, schema: &Schema, value: &Value<'_>) -> Result<Tre
     }
 }
 
-/// What stands in an object's value and who owns it, and its version.
-fn read_parts(alloc: Global, schema: &Schema, value: Value<'_>) -> Result<(Owned, u64), ObjectFault>
+/// The version, and what else the system says.
+fn read_stamp<'a>(
+    alloc: Global,
+    metadata: &[(&'a str, Value<'a>)],
+) -> Result<(u64, Option<System>), ObjectFault>
+    requires { are_ordered (members_view metadata.now) ≡ true }
+    ensures { Returns {Y = said.Stamp} (λ p. record { version = p.0; system = option_map system_of p.1 }) result (stamp_in (data_in metadata.now)) }
+{
+    let Some(version) = version_in(metadata) else {
+        return Err(ObjectFault::NotCanonical);
+    };
+    let system = read_system(alloc, metadata)?;
+    Ok((version, system))
+}
+
+/// What stands in an object's value and who owns it, and what the system says of it.
+fn read_parts(alloc: Global, schema: &Schema, value: Value<'_>) -> Result<Stored, ObjectFault>
     requires { is_ordered (value_view value) ≡ true }
-    ensures { Returns {Y = State × ℕ} (λ o. (state_of o.0, o.1)) result (parts_in (shape schema.now) (data_of (value_view value.entry))) }
+    ensures { Returns {Y = State × said.Stamp} (λ o. (state_of o.owned, stored_stamp o)) result (parts_in (shape schema.now) (data_of (value_view value.entry))) }
 {
     let Some((others, metadata)) = split(value) else {
         return Err(ObjectFault::NotCanonical);
     };
-    let Some(version) = version_in(&metadata) else {
-        return Err(ObjectFault::NotCanonical);
-    };
+    let (version, system) = read_stamp(alloc, &metadata)?;
     let managers = read_owners(alloc, schema, &metadata)?;
     let fields = fields_of(others, metadata)?;
     let tree = read_content(alloc, schema, &fields)?;
-    Ok((Owned { tree, managers }, version))
+    let owned = Owned { tree, managers };
+    Ok(Stored {
+        owned,
+        version,
+        system,
+    })
 }
 
 /// Whether all paths of the entries stand in the content.
@@ -100,26 +122,29 @@ impl Owned {
         all_stand_in(&self.tree, self.managers.entries())
     }
 
-    /// Reads an object of this type and key back: what stands in it, who owns what, and its version.
+    /// Reads an object of this type and key back: what stands in it, who owns what, and what the system says of it.
     /// Every text is `NotCanonical` but those that `to_object` gives of a content with owners of its paths.
     pub fn from_object(
         alloc: Global,
         schema: &Schema,
         of: Identity<'_>,
         text: &str,
-    ) -> Result<(Owned, u64), ObjectFault>
+    ) -> Result<Stored, ObjectFault>
         ensures { IsObjectShape (shape schema.now) → IsReadBack (shape schema.now) (identity_of of.entry) text.now result }
     {
         let mut scratch = Scratch::new(alloc);
         let value = read_value(alloc, text, &mut scratch)?;
-        let (owned, version) = read_parts(alloc, schema, value)?;
-        if !owned.owned_stand() {
+        let stored = read_parts(alloc, schema, value)?;
+        if !stored.owned.owned_stand() {
             return Err(ObjectFault::NotCanonical);
         }
         let room = text.len().saturating_add(AHEAD);
-        let printed = owned.sized_text(alloc, schema, Envelope { of, version }, room)?;
+        let stamp = stored.stamp();
+        let printed = stored
+            .owned
+            .sized_text(alloc, schema, Envelope { of, stamp }, room)?;
         if are_same(printed.as_str(), text) {
-            return Ok((owned, version));
+            return Ok(stored);
         }
         Err(ObjectFault::NotCanonical)
     }

@@ -21,8 +21,8 @@ pub use carry::Carry;
 pub use conflict::{ApplyFault, Conflict};
 pub use laws::same_values_are_shared;
 pub use objects::{
-    Entry, Identity, Manager, Managers, ObjectFault, Operation, Owned, Subresource,
-    objects_are_one_for_one,
+    Entry, Identity, Manager, Managers, ObjectFault, Operation, Owned, Stamp, Stored, Subresource,
+    System, objects_are_one_for_one,
 };
 pub use outcome::{Outcome, written_over};
 pub use same::is_same;

@@ -9,6 +9,6 @@ returns c =
     let of = c.args.envelope.of in
     let two = c.write_string-2.new.out in
     on_ok_weaker c.write_string-3.result (λ last rest.
-    let numbered = member (codes "resourceVersion") (string (decimal c.args.envelope.version)) rest in
+    let numbered = member (codes "resourceVersion") (string (decimal c.args.envelope.stamp.version)) rest in
     last rest ∙ ap (λ t. two.text ++ members_text two.later (member (codes "resourceVersion") (string t) rest)) (c.as_str.ensures.value ∙ c.in_ok-version.ensures.ok)
     ∙ c.in_ok-write_string-2.ensures numbered ∙ c.in_ok-write_string.ensures (member (codes "namespace") (string of.namespace.now) numbered)) c.write_string-3.ensures
