@@ -4,5 +4,6 @@ pub mod Values
 pub mod Texts
 pub mod Reading
 pub mod Lenient
+pub mod Strictness
 pub mod Views
 pub mod FaultViews

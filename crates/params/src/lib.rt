@@ -18,5 +18,5 @@ mod texts;
 pub use fault::ParamsFault;
 pub use lenient::lenient_reads_all;
 pub use parameter::Parameter;
-pub use params::{Asked, Params, Token, VersionMatch, Watch, is_dry_run};
+pub use params::{Asked, Params, Token, VersionMatch, Watch, is_dry_run, is_strict};
 pub use texts::BAD_MANAGER;

@@ -5,6 +5,7 @@ ghost use Rattle.std.specs.Prelude.{◌≡◌, IfOk, option_map, string_bytes};
 ghost use Rattle.params.specs.Lenient.{asking, fields_asked, is_dry_run, values_meant};
 ghost use Rattle.params.specs.Query.{pairs_in};
 ghost use Rattle.params.specs.Reading.{applied, deleted, got, is_any, listed, listed_or_watched, match_fits, params_of, together, token_fits, watched, written};
+ghost use Rattle.params.specs.Strictness.{is_strict};
 ghost use Rattle.params.specs.Texts.{ReadsBack, token_text};
 ghost use Rattle.params.specs.Values.{no_values};
 ghost use Rattle.params.specs.Views.{Returns, pairs_of, token_view, values_of};
@@ -260,6 +261,15 @@ pub fn is_dry_run(alloc: Global, query: &[u8]) -> Result<bool, AllocError>
 {
     let query = Query::read(alloc, query)?;
     Ok(query.is_dry_run())
+}
+
+/// Whether a query asks that unknown fields be refused: the first of its `fieldValidation`s that isn't empty is `Strict`
+/// (Kubernetes documentation, "Kubernetes API Concepts", "Field validation"). A value that is none is refused by `Params::read`.
+pub fn is_strict(alloc: Global, query: &[u8]) -> Result<bool, AllocError>
+    ensures { IfOk result (λ b. b ≡ is_strict (pairs_in query.now)) }
+{
+    let query = Query::read(alloc, query)?;
+    Ok(query.is_strict())
 }
 
 impl Params {

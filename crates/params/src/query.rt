@@ -6,6 +6,7 @@ ghost use Rattle.params.specs.Lenient.{is_dry_run, lenient};
 ghost use Rattle.params.specs.declared.parameter.Parameter.TheVariants.{FieldSelector};
 ghost use Rattle.params.specs.Query.{first_at, pairs_in, value_of};
 ghost use Rattle.params.specs.Reading.{absent_in, manager_in, manager_or, match_in, number_in, selector_in, strict_in, token_in, truth_in, version_in};
+ghost use Rattle.params.specs.Strictness.{first_filled_at, is_strict};
 ghost use Rattle.params.specs.Views.{Returns, pairs_of, token_view};
 
 use crate::fault::ParamsFault;
@@ -29,6 +30,18 @@ fn first_at<'a>(pairs: &'a [(String, String)], name: &str) -> &'a str
 {
     for (known, value) in pairs {
         if known.as_str() == name {
+            return value.as_str();
+        }
+    }
+    ""
+}
+
+/// The first value under a name that isn't empty; empty where there is none.
+fn first_filled_at<'a>(pairs: &'a [(String, String)], name: &str) -> &'a str
+    ensures { result.now ≡ first_filled_at name.now (pairs_of pairs.now) }
+{
+    for (known, value) in pairs {
+        if known.as_str() == name && !value.is_empty() {
             return value.as_str();
         }
     }
@@ -77,6 +90,13 @@ impl Query {
         ensures { result ≡ is_dry_run (pairs_of self.now.pairs.items) }
     {
         self.value(Parameter::DryRun) == "All"
+    }
+
+    /// Whether it asks that unknown fields be refused.
+    pub(crate) fn is_strict(&self) -> bool
+        ensures { result ≡ is_strict (pairs_of self.now.pairs.items) }
+    {
+        first_filled_at(&self.pairs, Parameter::FieldValidation.name()) == "Strict"
     }
 
     fn value(&self, parameter: Parameter) -> &str
