@@ -77,11 +77,18 @@ collection_in (Some namespace) = of_namespace namespace
 
 -- ---- calls
 
--- the query as it stands in the request's target
+-- the query as it stands in the request's target; what the client calls itself (RFC 9110, section 10.1.5); and the time of the last tick before
+-- the call, in milliseconds
 pub record Call : Type 0 where
   pub target : Target
   pub query : List ℕ
   pub body : Option Data
+  pub agent : Option (List ℕ)
+  pub ticked : ℕ
+
+-- the same after this tick
+abbrev pub at_tick : ℕ → Call → Call
+at_tick ms call = record call { ticked = ms }
 
 -- the body is a text; where a watch is opened it is empty, and the watch's lines come after it
 pub record Answer : Type 0 where

@@ -1,4 +1,5 @@
 pub mod Reasons
+pub mod Details
 pub mod Status
 pub mod Validated
 pub mod Json

@@ -1,5 +1,5 @@
 -- Reasons of refusals and their codes (Kubernetes API conventions, "Response Status Kind"; RFC 9110, section 15; RFC 6585, section 5).
-use Rattle.std.specs.Prelude.{ℕ, List, codes}
+use Rattle.std.specs.Prelude.{ℕ, Bool, true, false, List, codes}
 use Rattle.api_request.specs.declared.reason.Reason.{Reason}
 use Rattle.api_request.specs.declared.reason.Reason.TheVariants.{BadRequest, NotFound, MethodNotAllowed, AlreadyExists, Conflict, Expired, LengthRequired, RequestEntityTooLarge, UnsupportedMediaType, Invalid, RequestHeaderFieldsTooLarge, NotImplemented, ServiceUnavailable, Timeout, HttpVersionNotSupported}
 
@@ -37,3 +37,8 @@ reason_text NotImplemented = codes "NotImplemented"
 reason_text ServiceUnavailable = codes "ServiceUnavailable"
 reason_text Timeout = codes "Timeout"
 reason_text HttpVersionNotSupported = codes "HTTPVersionNotSupported"
+
+-- of what is well formed and breaks a rule of the object
+abbrev pub is_invalid : Reason → Bool
+is_invalid Invalid = true
+is_invalid r = false

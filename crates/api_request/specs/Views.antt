@@ -27,10 +27,13 @@ use Rattle.api_request.specs.declared.body.Body.{Body}
 use Rattle.api_request.specs.declared.call_refusal.CallRefusal.{CallRefusal as TheCallRefusal}
 use Rattle.api_request.specs.declared.call_error.CallError.{CallError}
 use Rattle.api_request.specs.declared.call_error.CallError.TheVariants as call_error
+use Rattle.api_request.specs.declared.details.About.{About as TheAbout}
+use Rattle.api_request.specs.declared.details.FieldFault.{FieldFault as TheFieldFault}
 use Rattle.api_request.specs.declared.place.RequestInfo.{RequestInfo as ThePlace}
 use Rattle.api_request.specs.declared.reason.Reason.{Reason}
 use Rattle.api_request.specs.Admit.{Parts, RequestInfo}
 use Rattle.api_request.specs.Calls.{Target, of_objects, of_document, Scope, of_all, of_namespace, of_object, Call, Answer, Plan, Denied}
+use Rattle.api_request.specs.Details.{About, FieldFault}
 use Rattle.api_request.specs.Status.{CallRefusal}
 use Rattle.api_request.specs.Validated.{Validated, call_refusal}
 
@@ -49,7 +52,7 @@ abbrev pub body_seen : Body → Data
 body_seen b = view b.value
 
 abbrev pub call_of : TheCall → Call
-call_of c = record { target = target_of c.target; query = c.query.items; body = option_map body_seen c.body }
+call_of c = record { target = target_of c.target; query = c.query.items; body = option_map body_seen c.body; agent = option_map (λ a. a.items) c.agent; ticked = c.ticked }
 
 abbrev pub answer_of : TheAnswer → Answer
 answer_of a = record { status = a.status; body = string_bytes a.body; watch = option_map watch_from a.watch }
@@ -67,8 +70,20 @@ plan_of p = record { answer = answer_of p.answer; changes = changes_of p.changes
 
 -- ---- refusals
 
+abbrev pub field_fault_of : TheFieldFault → FieldFault
+field_fault_of f = record { path = string_bytes f.path; cause = f.cause; what = string_bytes f.what }
+
+abbrev pub about_of : TheAbout → About
+about_of a = record { group = option_map (λ s. string_bytes s) a.group; kind = string_bytes a.kind; name = string_bytes a.name }
+
 abbrev pub call_refusal_of : TheCallRefusal → CallRefusal
-call_refusal_of d = record { reason = d.reason; message = string_bytes d.message; causes = items_view d.causes.items }
+call_refusal_of d = record {
+  reason = d.reason;
+  message = string_bytes d.message;
+  at = option_map field_fault_of d.at;
+  about = option_map about_of d.about;
+  causes = items_view d.causes.items;
+}
 
 abbrev pub Refuses : CallError → CallRefusal → Type 0
 Refuses call_error.Memory d = Unit {0}

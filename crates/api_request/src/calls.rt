@@ -43,6 +43,23 @@ pub struct Call {
     /// The query as it stands in the request, without the `?`.
     pub query: Vec<u8>,
     pub body: Option<Body>,
+    /// What the client calls itself (RFC 9110, section 10.1.5).
+    pub agent: Option<Vec<u8>>,
+    /// The time of the last tick before the call, in milliseconds.
+    pub ticked: u64,
+}
+
+impl Call {
+    ghost use Rattle.std.specs.Prelude.{◌≡◌};
+    ghost use Rattle.api_request.specs.Calls.{at_tick};
+    ghost use Rattle.api_request.specs.Views.{call_of};
+
+    /// The same call after this tick.
+    pub fn at_tick(self, ms: u64) -> Call
+        ensures { call_of result ≡ at_tick ms (call_of self) }
+    {
+        Call { ticked: ms, ..self }
+    }
 }
 
 /// What a call answers: status and body, and the watch that begins, if one does.

@@ -1,7 +1,7 @@
 //! The reasons of refusals, their status codes and texts. A whole refusal stands in `call_refusal`.
 
 ghost use Rattle.std.specs.Prelude.{◌≡◌};
-ghost use Rattle.api_request.specs.Reasons.{code_of, reason_text};
+ghost use Rattle.api_request.specs.Reasons.{code_of, is_invalid, reason_text};
 
 use answers::{EXPIRED, GONE};
 
@@ -69,5 +69,12 @@ impl Reason {
             Reason::Timeout => "Timeout",
             Reason::HttpVersionNotSupported => "HTTPVersionNotSupported",
         }
+    }
+
+    /// Whether it is that of a request which is well formed and breaks a rule of the object.
+    pub fn is_invalid(self) -> bool
+        ensures { result ≡ is_invalid self }
+    {
+        matches!(self, Reason::Invalid)
     }
 }

@@ -1,3 +1,4 @@
 pub mod Entries
 pub mod Rests
 pub mod Readings
+pub mod Required

@@ -3,7 +3,7 @@ use Rattle.std.specs.Prelude.{ℕ, suc, Bool, not, length, nat_le, nat_lt, Optio
 use Rattle.serde_json.specs.Data.{Data, Members, no_members, member}
 use Rattle.serde_json.specs.Written.{compact_text}
 use Rattle.api_request.specs.declared.reason.Reason.TheVariants.{Invalid}
-use Rattle.api_request.specs.Validated.{Validated, and_then, require}
+use Rattle.api_request.specs.Validated.{Validated, and_then, require, require_at}
 use Rattle.api_validation.specs.Naming.{metadata_object}
 
 abbrev pub max_labels : ℕ
@@ -27,5 +27,5 @@ is_over d = nat_lt max_bytes (length (compact_text d))
 -- the object as it is printed
 abbrev pub size_validated : Data → Validated (Unit {0})
 size_validated d =
-    and_then (require (nat_le (count_if_there (metadata_object (codes "labels") d)) max_labels) Invalid (codes "metadata.labels: more than 64")) (λ u.
+    and_then (require_at (nat_le (count_if_there (metadata_object (codes "labels") d)) max_labels) (codes "metadata.labels") (codes "more than 64")) (λ u.
     require (not (is_over d)) Invalid (codes "object over 1048576 bytes"))

@@ -4,12 +4,12 @@ ghost use Rattle.std.specs.Prelude.{◌≡◌, codes, option_map};
 ghost use Rattle.serde_json.specs.View.{members_view, view};
 ghost use Rattle.history.specs.Read.{key_of};
 ghost use Rattle.api_request.specs.declared.reason.Reason.TheVariants.{Invalid};
-ghost use Rattle.api_request.specs.Validated.{require};
+ghost use Rattle.api_request.specs.Validated.{require, require_at};
 ghost use Rattle.api_validation.specs.Naming.{annotation_validated, annotations_validated, if_there, label_validated, labels_validated, labels_and_annotations_validated, labels_and_annotations_validated_by, metadata_object, names_validated, path_validated, required_name};
 ghost use Rattle.api_request.specs.Views.{Returns};
 ghost use Rattle.api_validation.specs.Views.{rest_seen};
 
-use api_request::{CallError, Reason};
+use api_request::{CallError, CauseType, Reason};
 use history::Key;
 use names::{is_dns_label, is_dns_subdomain, is_label_key, is_label_value};
 use objects::Subresource;
@@ -26,14 +26,25 @@ pub fn require(alloc: Global, is_good: bool, message: &str) -> Result<(), CallEr
     Err(CallError::refused_for(alloc, Reason::Invalid, message))
 }
 
+/// A refusal of the field at a path, unless the test holds.
+pub fn require_at(alloc: Global, is_good: bool, path: &str, what: &str) -> Result<(), CallError>
+    ensures { Returns (λ u. u) result (require_at is_good path.now what.now) }
+{
+    if !is_good {
+        return Err(CallError::invalid_at(alloc, path, what));
+    }
+    Ok(())
+}
+
 fn validate_path(alloc: Global, namespace: &str, name: &str) -> Result<(), CallError>
     ensures { Returns (λ u. u) result (path_validated namespace.now name.now) }
 {
-    require(alloc, is_dns_subdomain(name), "metadata.name: bad name")?;
-    require(
+    require_at(alloc, is_dns_subdomain(name), "metadata.name", "bad name")?;
+    require_at(
         alloc,
         is_dns_label(namespace),
-        "metadata.namespace: bad namespace",
+        "metadata.namespace",
+        "bad namespace",
     )
 }
 
@@ -42,11 +53,12 @@ fn validate_label(alloc: Global, key: &str, member: &Value) -> Result<(), CallEr
 {
     match member {
         Value::String(value) => {
-            require(alloc, is_label_key(key), "metadata.labels: bad key")?;
-            require(
+            require_at(alloc, is_label_key(key), "metadata.labels", "bad key")?;
+            require_at(
                 alloc,
                 is_label_value(value.as_str()),
-                "metadata.labels: bad value",
+                "metadata.labels",
+                "bad value",
             )
         }
         _ => Ok(()),
@@ -57,7 +69,7 @@ fn validate_annotation(alloc: Global, key: &str, member: &Value) -> Result<(), C
     ensures { Returns (λ u. u) result (annotation_validated key.now (view member.now)) }
 {
     match member {
-        Value::String(_) => require(alloc, is_label_key(key), "metadata.annotations: bad key"),
+        Value::String(_) => require_at(alloc, is_label_key(key), "metadata.annotations", "bad key"),
         _ => Ok(()),
     }
 }
@@ -135,7 +147,13 @@ pub fn require_name<'a>(alloc: Global, name: Option<&'a str>) -> Result<&'a str,
 {
     match name {
         Some(name) => Ok(name),
-        None => Err(CallError::refused_for(alloc, Reason::Invalid, "metadata.name: required")),
+        None => Err(CallError::at_field(
+            alloc,
+            Reason::Invalid,
+            CauseType::FieldValueRequired,
+            "metadata.name",
+            "required",
+        )),
     }
 }
 

@@ -8,7 +8,7 @@ ghost use Rattle.api_validation.specs.Naming.{metadata_object};
 ghost use Rattle.api_request.specs.Views.{Returns};
 ghost use Rattle.api_validation.specs.Size.{count_if_there, size_validated};
 
-use crate::naming::require;
+use crate::naming::{require, require_at};
 use api_request::CallError;
 use std::alloc::Global;
 
@@ -22,6 +22,11 @@ const MAX_BYTES: usize = 1_048_576;
 pub fn validate_size(alloc: Global, labels: usize, text: &str) -> Result<(), CallError>
     ensures { (object : Data) → text.now ≡ compact_text object → labels ≡ count_if_there (metadata_object (codes "labels") object) → Returns (λ u. u) result (size_validated object) }
 {
-    require(alloc, labels <= MAX_LABELS, "metadata.labels: more than 64")?;
+    require_at(
+        alloc,
+        labels <= MAX_LABELS,
+        "metadata.labels",
+        "more than 64",
+    )?;
     require(alloc, text.len() <= MAX_BYTES, "object over 1048576 bytes")
 }
