@@ -30,7 +30,7 @@ prefix_short bytes m h =
     let taken = length-take max_head bytes in
     omega (arith, low, taken)
 
-prefix_more : (bytes more : List ℕ) (m : ℕ) → head_end (take max_head bytes) ≡ Some m → head_end (take max_head (bytes ++ more)) ≡ Some m
+pub prefix_more : (bytes more : List ℕ) (m : ℕ) → head_end (take max_head bytes) ≡ Some m → head_end (take max_head (bytes ++ more)) ≡ Some m
 prefix_more bytes more m h =
     let split = take_prefix max_head bytes more in
     ap head_end split.1 ∙ end_more Leading 0 (take max_head bytes) split.0 m h

@@ -3,9 +3,12 @@ pub mod Chunking
 pub mod Cuts
 pub mod Deciding
 pub mod Digits
+pub mod Fronts
 pub mod Heading
+pub mod KeptHeads
 pub mod Lines
 pub mod Numbers
+pub mod RequestSizes
 pub mod RequestTargets
 pub mod Saying
 pub mod Searching

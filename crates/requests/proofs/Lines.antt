@@ -15,10 +15,10 @@ line_at bytes end line is said = subst (λ (o : Option ℕ). IsLineAt bytes o li
 
 -- ---- of a head that is accepted
 
-accepted_of : {A : Type 0} {x y : A} → accepted x ≡ accepted y → x ≡ y
+pub accepted_of : {A : Type 0} {x y : A} → accepted x ≡ accepted y → x ≡ y
 accepted_of e = cc
 
-isnt_open : (s : Bool) (r : Request) (rest : List ℕ) → (let said : HeadDecision = accepted (r, rest) in said) ≡ cond s (refuse head_too_large) undecided → ⊥
+pub isnt_open : (s : Bool) (r : Request) (rest : List ℕ) → (let said : HeadDecision = accepted (r, rest) in said) ≡ cond s (refuse head_too_large) undecided → ⊥
 isnt_open true r rest is = cc
 isnt_open false r rest is = cc
 

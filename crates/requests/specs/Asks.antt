@@ -13,9 +13,9 @@ use Rattle.requests.specs.Bodies.{body_by, checked_media_by, path_of, query_of}
 abbrev pub CallDecision : Type 0
 CallDecision = Decision Call
 
--- a call of this resource with the query of the request target and this body
+-- a call of this resource with the query of the request target, this body and the client's name; bytes alone say no time
 abbrev pub call_with : Request → Target → Decision (Option Data) → CallDecision
-call_with request target body = and_then body (λ value. accepted (record { target = target; query = query_of request.request_target; body = value }))
+call_with request target body = and_then body (λ value. accepted (record { target = target; query = query_of request.request_target; body = value; agent = request.agent; ticked = 0 }))
 
 -- first the route, the method and the media type are checked, in this order, then the body: Transfer-Encoding, length, and once it has come JSON
 abbrev pub call_by : List ServedShape → Option Method → Request → List ℕ → CallDecision

@@ -1,6 +1,6 @@
 -- What the head of a request says (RFC 9112, sections 2.2, 3, 5 and 6), and when a prefix of a connection's bytes has it.
 use Rattle.std.specs.Prelude.{◌≡◌, ◌⊎◌, ℕ, Bool, ◌==◌, not, nat_lt, if◌then◌else◌, List, [], ◌∷◌, ◌++◌, length, map, take, drop, Option, Some, None, option_map, codes, nat_eq}
-use Rattle.std.specs.List.{list_any, starts_with, filter}
+use Rattle.std.specs.List.{before_first, list_any, starts_with, filter}
 use Rattle.httparse.specs.Grammar.{RequestHead, ReadsRequest}
 use Rattle.httparse.specs.Spans.{name_and_value}
 use Rattle.wire.specs.Heads.{Named, has_name, head_end, is_content_length, is_transfer_encoding, max_fields, max_head}
@@ -17,6 +17,11 @@ is_host field = has_name (codes "host") field
 abbrev pub media_in : List Named → Option (List ℕ)
 media_in [] = None
 media_in (field ∷ fields) = if has_name (codes "content-type") field then Some field.1 else media_in fields
+
+-- what the client calls itself: the first User-Agent, up to its first slash (RFC 9110, section 10.1.5)
+abbrev pub agent_in : List Named → Option (List ℕ)
+agent_in [] = None
+agent_in (field ∷ fields) = if has_name (codes "user-agent") field then Some (before_first (λ b. b == 47) field.1) else agent_in fields
 
 abbrev pub is_transfer_encoded : List Named → Bool
 is_transfer_encoded fields = list_any is_transfer_encoding fields
@@ -54,6 +59,7 @@ pub record Request : Type 0 where
   pub method : List ℕ
   pub request_target : List ℕ
   pub media : Option (List ℕ)
+  pub agent : Option (List ℕ)
   pub transfer_encoded : Bool
   pub length : Length
 
@@ -62,6 +68,7 @@ request_of method request_target fields = record {
   method = method;
   request_target = request_target;
   media = media_in fields;
+  agent = agent_in fields;
   transfer_encoded = is_transfer_encoded fields;
   length = length_after missing fields;
 }

@@ -5,7 +5,9 @@ pub mod HeadEnds
 pub mod ReadBufferViews
 pub mod Bodies
 pub mod ReplyBytes
+pub mod KeptReplies
 pub mod Replies
 pub mod Asks
 pub mod Views
 pub mod Pendings
+pub mod RequestSizes

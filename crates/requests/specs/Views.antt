@@ -72,6 +72,7 @@ request_in h = record {
   method = h.method.now;
   request_target = h.request_target.now;
   media = option_map (λ m. m.now) h.media;
+  agent = option_map (λ a. a.now) h.agent;
   transfer_encoded = h.is_transfer_encoded;
   length = length_of h.length;
 }

@@ -1,12 +1,12 @@
 //! What the head of a request says, and when it has come. The search for its end stands in `head_end`.
 
-ghost use Rattle.std.specs.Prelude.{◌≡◌, ◌≢◌, ◌≤◌, ◌<◌, ◌++◌, ℕ, List, true, Some, None, [], length, take, drop, map, option_map, IfSome, IsUtf8};
-ghost use Rattle.std.specs.List.{All, filter};
+ghost use Rattle.std.specs.Prelude.{◌≡◌, ◌≢◌, ◌≤◌, ◌<◌, ◌++◌, ◌==◌, ℕ, List, true, Some, None, [], length, take, drop, map, option_map, IfSome, IsUtf8};
+ghost use Rattle.std.specs.List.{All, before_first, filter};
 ghost use Rattle.httparse.specs.Grammar.{RequestHead, ReadsRequest};
 ghost use Rattle.httparse.specs.Spans.{header_bytes, span_bytes, IsHeaderWithin, IsWithin, IsRequestWithin};
 ghost use Rattle.wire.specs.Heads.{head_end, max_head};
 ghost use Rattle.wire.specs.Lengths.{decimal_value, length_in};
-ghost use Rattle.requests.specs.Heads.{is_host, media_in, is_transfer_encoded, agreed, length_after, length_said, missing, number, validated, IsLineOf, ReadsWholeHead, HeadDecision, ReadsHead, with_more};
+ghost use Rattle.requests.specs.Heads.{is_host, media_in, agent_in, is_transfer_encoded, agreed, length_after, length_said, missing, number, validated, IsLineOf, ReadsWholeHead, HeadDecision, ReadsHead, with_more};
 ghost use Rattle.requests.specs.Decision.{undecided};
 ghost use Rattle.requests.specs.Views.{decision_of, head_of, is_plain, length_of, line_seen, without_zeros, EndsIn, IsPlain, IsWholeAt};
 
@@ -47,6 +47,8 @@ pub struct Head<'b> {
     pub request_target: &'b str,
     /// The value of the first Content-Type.
     pub media: Option<&'b [u8]>,
+    /// What the client calls itself: the first User-Agent, up to its first slash (RFC 9110, section 10.1.5).
+    pub agent: Option<&'b [u8]>,
     /// Whether there is a Transfer-Encoding.
     pub is_transfer_encoded: bool,
     pub length: Length<'b>,
@@ -73,6 +75,28 @@ fn media_in<'b>(head: &'b [u8], fields: &[HeaderSpan]) -> Option<&'b [u8]>
     for field in fields {
         if has_name(head, field, b"content-type") {
             return Some(field.value.of(head));
+        }
+    }
+    None
+}
+
+/// What stands before the first slash.
+fn before_slash(value: &[u8]) -> &[u8]
+    ensures { result.now ≡ before_first (λ b. b == 47) value.now }
+{
+    match value.iter().position(|byte| *byte == b'/') {
+        Some(place) => &value[..place],
+        None => value,
+    }
+}
+
+fn agent_in<'b>(head: &'b [u8], fields: &[HeaderSpan]) -> Option<&'b [u8]>
+    requires { All (IsHeaderWithin (length head.now)) fields.now }
+    ensures { option_map (λ a. a.now) result ≡ agent_in (map (header_bytes head.now) fields.now) }
+{
+    for field in fields {
+        if has_name(head, field, b"user-agent") {
+            return Some(before_slash(field.value.of(head)));
         }
     }
     None
@@ -201,6 +225,7 @@ fn validated<'b>(
         method: text_of(parts.method.of(head)),
         request_target: text_of(request_target),
         media: media_in(head, fields),
+        agent: agent_in(head, fields),
         is_transfer_encoded: is_transfer_encoded(head, fields),
         length: length_of(head, fields),
         rest,
