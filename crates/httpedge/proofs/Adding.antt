@@ -13,6 +13,7 @@ use Rattle.history.proofs.Revisions.{up_to-below}
 use Rattle.history.proofs.Writes.{changes_all, compacted_all, current_all}
 use Rattle.verbs.specs.Machine.{after}
 use Rattle.verbs.specs.Retyping.{RetypeRefusal, retyped, retyping, retyping_writes}
+use Rattle.api_request.specs.Calls.{at_tick}
 use Rattle.verbs.specs.Step.{planned}
 use Rattle.requests.specs.Asks.{CallDecision}
 use Rattle.requests.specs.Decision.{undecided, refused, accepted}
@@ -80,10 +81,10 @@ after_grown s all (c ∷ cs) = grows_on s mid _ one (after_grown mid all cs)
       compacted = not_less s.machine.compacted;
     }
 
-made_grown : (s : State) (all : Connections) (decision : CallDecision) → HasGrown s (with_connections (with_machine s (machine_after s.types s.machine decision)) all)
+made_grown : (s : State) (all : Connections) (decision : CallDecision) → HasGrown s (with_connections (with_machine s (machine_after s.types s.machine s.last_tick decision)) all)
 made_grown s all undecided = still s _ refl refl
 made_grown s all (refused d) = still s _ refl refl
-made_grown s all (accepted call) = after_grown s all (planned s.types s.machine call).changes
+made_grown s all (accepted call) = after_grown s all (planned s.types s.machine (at_tick s.last_tick call)).changes
 
 received_grown : (s : State) (id : ℕ) (c : Connection) (st : Phase) (bytes : List ℕ) (decision : CallDecision) → HasGrown s (received_by s id c st bytes decision)
 received_grown s id c (waiting prefix) bytes decision = made_grown s _ decision

@@ -15,6 +15,7 @@ use Rattle.httpedge.specs.Steps.{Event, Refusal, State, id_not_above, opens, com
 use Rattle.requests.specs.Replies.{answer_bytes, refusal_reply}
 use Rattle.httpedge.specs.Watches.{Turn, Watch, pumped, ticked}
 use Rattle.verbs.specs.Retyping.{retyping}
+use Rattle.api_request.specs.Calls.{at_tick}
 use Rattle.verbs.specs.Step.{planned}
 use Rattle.httpedge.proofs.Connected.{got_each, tied_same, unknown}
 use Rattle.httpedge.proofs.OtherTypes.{same_connections}
@@ -35,7 +36,7 @@ after_grows : (types : List ServedShape) (m : History) (last_tick : ℕ) (c : Co
     → Grows (Some c) (Some (connection_after types m last_tick c bytes decision))
 after_grows types m last_tick c bytes undecided = same (Some c)
 after_grows types m last_tick c bytes (refused d) = (refusal_reply d, refl)
-after_grows types m last_tick c bytes (accepted call) = (answer_bytes (planned types m call).answer (planned types m call).answer.watch, refl)
+after_grows types m last_tick c bytes (accepted call) = let a = (planned types m (at_tick last_tick call)).answer in (answer_bytes a a.watch, refl)
 
 turn_grows : (turn : Watch → Turn) (c : Connection) (st : Phase) → Grows (Some c) (Some (after_turn turn c st))
 turn_grows turn c (waiting prefix) = same (Some c)

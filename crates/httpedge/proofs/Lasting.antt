@@ -9,7 +9,7 @@ use Rattle.fieldpath.proofs.Encodable.{encodable-read}
 use Rattle.api_types.specs.TypesFile.{ServedShape}
 use Rattle.history.specs.History.{History}
 use Rattle.api_request.specs.Admit.{admitted, method_named}
-use Rattle.api_request.specs.Calls.{Call}
+use Rattle.api_request.specs.Calls.{Call, at_tick}
 use Rattle.api_request.specs.Json.{IsJsonBody}
 use Rattle.verbs.specs.Machine.{IsMachine}
 use Rattle.verbs.specs.Retyping.{RetypeRefusal, retyping}
@@ -70,7 +70,7 @@ call_json : (types : List ServedShape) (request : Request) (rest : List ℕ) (ca
 call_json types request rest call e =
     let target = went_on (decided_by (admitted types (method_named request.method) (path_of request.request_target) (checked_media request))) _ call e in
     let body = went_on (body_in request rest) _ call target.2 in
-    let made : Call = record { target = target.0; query = query_of request.request_target; body = body.0 } in
+    let made : Call = record { target = target.0; query = query_of request.request_target; body = body.0; agent = request.agent; ticked = 0 } in
     let declared = went_on (decided_by (declared_length request)) _ body.0 body.1 in
     subst (λ (c : Call). IsJsonBody c.body) (accepted_is made call body.2) (declared_json declared.0 rest body.0 declared.2)
 
@@ -88,14 +88,15 @@ asked_json s (Some bytes) decision is call e = head_json s.types is.0 call (sym 
 abbrev Lasts : State → Type 0
 Lasts s = IsMachine s.types s.machine
 
-made_lasts : (types : List ServedShape) (m : History) (decision : CallDecision) → ((call : Call) → decision ≡ accepted call → IsJsonBody call.body) → IsMachine types m → IsMachine types (machine_after types m decision)
-made_lasts types m undecided json is = is
-made_lasts types m (refused d) json is = is
-made_lasts types m (accepted call) json is = steps_keep_machines types m call is (json call refl)
+made_lasts : (types : List ServedShape) (m : History) (last_tick : ℕ) (decision : CallDecision) → ((call : Call) → decision ≡ accepted call → IsJsonBody call.body) → IsMachine types m
+    → IsMachine types (machine_after types m last_tick decision)
+made_lasts types m last_tick undecided json is = is
+made_lasts types m last_tick (refused d) json is = is
+made_lasts types m last_tick (accepted call) json is = steps_keep_machines types m (at_tick last_tick call) is (json call refl)
 
 received_lasts : (s : State) (id : ℕ) (c : Connection) (st : Phase) (bytes : List ℕ) (decision : CallDecision) → ((call : Call) → decision ≡ accepted call → IsJsonBody call.body) → Lasts s
     → Lasts (received_by s id c st bytes decision)
-received_lasts s id c (waiting prefix) bytes decision json is = made_lasts s.types s.machine decision json is
+received_lasts s id c (waiting prefix) bytes decision json is = made_lasts s.types s.machine s.last_tick decision json is
 received_lasts s id c (watching w) bytes decision json is = is
 received_lasts s id c ended bytes decision json is = is
 received_lasts s id c (gone had_ended) bytes decision json is = is

@@ -58,11 +58,11 @@ received_makes types m last_tick c (waiting prefix) bytes d done shared none (is
     asks,
     refl,
     (
-      did ∙ ap (λ (x : Connection). change_between (Some new_connection) (Some x) 0 (decided_status types m decision)) (later types m last_tick prefix (prefix ++ bytes) decision)
+      did ∙ ap (λ (x : Connection). change_between (Some new_connection) (Some x) 0 (decided_status types m last_tick decision)) (later types m last_tick prefix (prefix ++ bytes) decision)
           ∙ sym (ap (λ (x : Connection). received_change types m last_tick x (prefix ++ bytes) decision) is),
       asked,
     ),
-    serves shared types (machine_after types m decision) none represents,
+    serves shared types (machine_after types m last_tick decision) none represents,
   ),
   subst (λ (x : Connection). ConnectionRepresents types d x)
       (later types m last_tick prefix (prefix ++ bytes) decision ∙ sym (ap (λ (x : Connection). connection_after types m last_tick x (prefix ++ bytes) decision) is)) holds,

@@ -6,6 +6,7 @@ use Rattle.api_types.specs.TypesFile.{ServedShape}
 use Rattle.history.specs.History.{History}
 use Rattle.verbs.specs.Machine.{after}
 use Rattle.answers.specs.WatchFrom.{WatchFrom}
+use Rattle.api_request.specs.Calls.{at_tick}
 use Rattle.verbs.specs.Step.{planned}
 use Rattle.requests.specs.Asks.{CallDecision, Asks, asked_by}
 use Rattle.httpedge.specs.Connections.{Connection, Phase, waiting, watching, ended, gone, is_waiting, with_phase, with_written}
@@ -42,7 +43,7 @@ connection_later types m last_tick c prefix bytes (accepted call) = refl
 received_after : (s : State) (id : ℕ) (c : Connection) (prefix bytes : List ℕ) (decision : CallDecision)
     → received (with_connection s id (with_phase c (waiting prefix))) id (with_phase c (waiting prefix)) bytes decision ≡ received s id c bytes decision
 received_after s id c prefix bytes decision =
-    let m = machine_after s.types s.machine decision in
+    let m = machine_after s.types s.machine s.last_tick decision in
     again (with_machine s m) id (with_phase c (waiting prefix)) (connection_after s.types s.machine s.last_tick (with_phase c (waiting prefix)) bytes decision)
     ∙ ap (with_connection (with_machine s m) id) (connection_later s.types s.machine s.last_tick c prefix bytes decision)
 
@@ -99,7 +100,7 @@ by_asked s mid t id c prefix first second (refused e) asks is later =
     then_answered s t id c prefix first second (refusal_reply e) ended (refused e) s refl (λ u. absurd cc) asks refl
     (found s id d second t (subst (λ (m : State). ThenComes m id second t) is later))
 by_asked s mid t id c prefix first second (accepted call) asks is later =
-    let plan = planned s.types s.machine call in
+    let plan = planned s.types s.machine (at_tick s.last_tick call) in
     let written = answer_bytes plan.answer plan.answer.watch in
     let st = answer_phase s.last_tick plan.answer.watch in
     let r = with_machine s (after s.machine plan.changes) in

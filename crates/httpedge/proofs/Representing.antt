@@ -355,8 +355,8 @@ comes_idle s id bytes did none =
 comes_done : (s : State) (id : ℕ) (bytes : List ℕ) (shared shared' : Shared) (old new : TheConnections) (c c' : Connection) (did : dones.Done) (st : Phase) → PartsRepresent shared old s → fin.get s.connections id ≡ Some c
     → c.phase ≡ st → Receives s.types s.machine s.last_tick c st bytes c' did shared' → BecomesAt s.types (is_open c'.phase) c' id old new → Done s (comes id bytes) (effect_on id did) shared' new
 comes_done s id bytes shared shared' old new c c' did (waiting prefix) held got represents (decision, asks, is, (did_is, asked), serves) becomes =
-    let m = machine_after s.types s.machine decision in
-    let status = decided_status s.types s.machine decision in (
+    let m = machine_after s.types s.machine s.last_tick decision in
+    let status = decided_status s.types s.machine s.last_tick decision in (
       with_connection (with_machine s m) id c',
       does_on s (with_connection (with_machine s m) id c') id bytes c (waiting prefix) (effect_on id did) decision got represents asks (ap (with_connection (with_machine s m) id) is)
           (one_effect s m (comes id bytes) decision id (Some c) c' 0 status did got refl (its_id id status None) (λ q isnt. (refl, other_id id status None q isnt))

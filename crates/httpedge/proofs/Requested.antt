@@ -5,7 +5,7 @@ use Rattle.std.specs.Prelude.{IfSome, nat_lt, option_map}
 use Rattle.api_types.specs.TypesFile.{ServedShape}
 use Rattle.history.specs.History.{History}
 use Rattle.answers.specs.WatchFrom.{WatchFrom}
-use Rattle.api_request.specs.Calls.{Answer}
+use Rattle.api_request.specs.Calls.{Answer, at_tick}
 use Rattle.api_request.specs.Reasons.{code_of}
 use Rattle.verbs.specs.Step.{planned}
 use Rattle.requests.specs.declared.request.Request.{Request}
@@ -52,5 +52,5 @@ pub answer_speaks : (types : List ServedShape) (m : History) (last_tick : ℕ) (
 answer_speaks types m last_tick c bytes undecided did not_yet is asked = none_asked (says_something did.change ≡ true) did.request asked
 answer_speaks types m last_tick c bytes (refused d) did not_yet is asked = if_some did.request (ap says_something is ∙ ended_speaks c (refusal_reply d) (Some (code_of d.reason)) not_yet)
 answer_speaks types m last_tick c bytes (accepted call) did not_yet is asked =
-    let a = (planned types m call).answer in
+    let a = (planned types m (at_tick last_tick call)).answer in
     if_some did.request (ap says_something is ∙ answered_speaks last_tick c a a.watch (Some a.status) not_yet)

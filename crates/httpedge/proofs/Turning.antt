@@ -13,7 +13,7 @@ use Rattle.watchline.specs.Watches as cursors
 use Rattle.answers.specs.Views.{watch_from}
 use Rattle.watchline.specs.Views.{bookmark_turn}
 use Rattle.answers.specs.declared.watch_from.WatchFrom.{WatchFrom as TheWatchFrom}
-use Rattle.api_request.specs.Calls.{Answer, Call}
+use Rattle.api_request.specs.Calls.{Answer, Call, at_tick}
 use Rattle.verbs.specs.Step.{planned}
 use Rattle.verbs.specs.Watching.{bookmarked_as, bookmarked_in}
 use Rattle.requests.specs.Decision.{accepted}
@@ -242,12 +242,17 @@ ends_by : (last_tick : ℕ) (o : Option TheWatchFrom) → is_none o ≡ has_ende
 ends_by last_tick None = refl
 ends_by last_tick (Some from) = refl
 
+-- what answers a call after this tick
+abbrev answer_after : List ServedShape → History → ℕ → Call → Answer
+answer_after types m last_tick call = (planned types m (at_tick last_tick call)).answer
+
 -- what an answer did
 pub answered_did : (types : List ServedShape) (m : History) (last_tick : ℕ) (asked : List ℕ) (call : Call) (bytes : List ℕ) (status : ℕ) (o : Option TheWatchFrom)
-    → bytes ≡ answer_bytes (planned types m call).answer (planned types m call).answer.watch → status ≡ (planned types m call).answer.status → option_map watch_from o ≡ (planned types m call).answer.watch
+    → bytes ≡ answer_bytes (answer_after types m last_tick call) (answer_after types m last_tick call).watch → status ≡ (answer_after types m last_tick call).status
+    → option_map watch_from o ≡ (answer_after types m last_tick call).watch
     → answer_change bytes status (is_none o) ≡ received_change types m last_tick new_connection asked (accepted call)
 answered_did types m last_tick asked call bytes status o are is opens =
-    let a = (planned types m call).answer in
+    let a = answer_after types m last_tick call in
     ap₂ (λ (b : List ℕ) (n : ℕ). answer_change b n (is_none o)) are is
     ∙ ap (answer_change (answer_bytes a a.watch) a.status) (subst (λ (w : Option WatchFrom). is_none o ≡ has_ended (answer_phase last_tick w) && true) opens (ends_by last_tick o))
 

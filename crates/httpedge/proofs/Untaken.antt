@@ -16,6 +16,7 @@ use Rattle.requests.specs.Replies.{refusal_reply}
 use Rattle.httpedge.specs.Watches.{Turn, Watch, pumped, ticked}
 use Rattle.answers.specs.WatchFrom.{WatchFrom}
 use Rattle.verbs.specs.Retyping.{retyping}
+use Rattle.api_request.specs.Calls.{at_tick}
 use Rattle.verbs.specs.Step.{planned}
 use Rattle.httpedge.proofs.Connected.{got_each, tied_same}
 use Rattle.httpedge.proofs.OtherTypes.{same_connections}
@@ -44,7 +45,7 @@ after_untaken : (types : List ServedShape) (m : History) (last_tick : ℕ) (c : 
     → IsUntaken (Some (connection_after types m last_tick c bytes decision))
 after_untaken types m last_tick c bytes undecided is = (is.0, refl)
 after_untaken types m last_tick c bytes (refused d) is = (is.0, refl)
-after_untaken types m last_tick c bytes (accepted call) is = (is.0, answer_here last_tick (planned types m call).answer.watch)
+after_untaken types m last_tick c bytes (accepted call) is = (is.0, answer_here last_tick (planned types m (at_tick last_tick call)).answer.watch)
 
 stays_here : (o : Option Watch) → has_gone (phase_after o) ≡ false
 stays_here None = refl

@@ -30,7 +30,7 @@ event_on id change.Gone = goes id
 abbrev pub Receives : List ServedShape → History → ℕ → Connection → Phase → List ℕ → Connection → Done → Shared → Type 0
 Receives types m last_tick c (waiting prefix) bytes c' did shared =
     (decision : CallDecision) × Asks types (prefix ++ bytes) decision × (c' ≡ connection_after types m last_tick c (prefix ++ bytes) decision)
-    × Receiving types m last_tick c (prefix ++ bytes) decision did × SharedRepresents shared types (machine_after types m decision)
+    × Receiving types m last_tick c (prefix ++ bytes) decision did × SharedRepresents shared types (machine_after types m last_tick decision)
 Receives types m last_tick c _ bytes c' did shared = (c' ≡ c) × (did ≡ unasked no_change) × SharedRepresents shared types m
 
 -- the change makes this connection of one, and did this to it

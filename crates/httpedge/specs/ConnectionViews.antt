@@ -85,7 +85,7 @@ ConnectionRepresents types (conn.Closed had_ended) c = (is_open c.phase ≡ fals
 
 -- what bytes do to a connection that waited for them, by what they ask
 abbrev pub received_change : List ServedShape → History → ℕ → Connection → List ℕ → CallDecision → Change
-received_change types m last_tick c bytes decision = change_between (Some c) (Some (connection_after types m last_tick c bytes decision)) 0 (decided_status types m decision)
+received_change types m last_tick c bytes decision = change_between (Some c) (Some (connection_after types m last_tick c bytes decision)) 0 (decided_status types m last_tick decision)
 
 -- what was done is what these bytes do to such a connection, by what they ask: the change, and that the request of these bytes is answered, if one is
 abbrev pub Receiving : List ServedShape → History → ℕ → Connection → List ℕ → CallDecision → Done → Type 0
@@ -97,7 +97,7 @@ Receiving types m last_tick c bytes decision did =
 abbrev pub Becomes : List ServedShape → History → ℕ → List ℕ → conns.Connection → Done → Api → Type 0
 Becomes types m last_tick bytes c did api =
     (decision : CallDecision) × Asks types bytes decision × ConnectionRepresents types c (connection_after types m last_tick new_connection bytes decision)
-    × Receiving types m last_tick new_connection bytes decision did × ApiRepresents api types (machine_after types m decision)
+    × Receiving types m last_tick new_connection bytes decision did × ApiRepresents api types (machine_after types m last_tick decision)
 
 -- by how it stood
 abbrev pub ReceivesRepresentedBy : List ServedShape → History → ℕ → Connection → Phase → List ℕ → conns.Connection → Done → Api → Type 0

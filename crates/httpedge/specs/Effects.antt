@@ -6,6 +6,7 @@ use Rattle.std.specs.List.Sorted.{IsStrictlySortedBy}
 use Rattle.std.specs.Map.{lookup}
 use Rattle.std.specs.Ordering.{nat_cmp, eq_by_cmp}
 use Rattle.api_types.specs.TypesFile.{ServedShape}
+use Rattle.api_request.specs.Calls.{at_tick}
 use Rattle.api_request.specs.Reasons.{code_of}
 use Rattle.history.specs.History.{History}
 use Rattle.verbs.specs.Step.{planned}
@@ -49,10 +50,10 @@ lines_at s (ticks ms) q = lines_on (ticked s.types ms) s.connections q
 lines_at s _ q = 0
 
 -- the status of what is answered, if something is
-abbrev pub decided_status : List ServedShape → History → CallDecision → Option ℕ
-decided_status types m undecided = None
-decided_status types m (refused d) = Some (code_of d.reason)
-decided_status types m (accepted call) = Some (planned types m call).answer.status
+abbrev pub decided_status : List ServedShape → History → ℕ → CallDecision → Option ℕ
+decided_status types m last_tick undecided = None
+decided_status types m last_tick (refused d) = Some (code_of d.reason)
+decided_status types m last_tick (accepted call) = Some (planned types m (at_tick last_tick call)).answer.status
 
 -- past the limit an opening is refused
 abbrev pub opening_status : Connections → Option ℕ
@@ -61,7 +62,7 @@ opening_status all = if nat_le max_open (open_count all) then Some (code_of (as_
 -- the status of what the event answers on a connection: the decision is what the bytes ask
 abbrev pub status_at : State → Event → CallDecision → ℕ → Option ℕ
 status_at s (opens id) decision q = if eq_by_cmp nat_cmp id q then opening_status s.connections else None
-status_at s (comes id bytes) decision q = if eq_by_cmp nat_cmp id q then decided_status s.types s.machine decision else None
+status_at s (comes id bytes) decision q = if eq_by_cmp nat_cmp id q then decided_status s.types s.machine s.last_tick decision else None
 status_at s _ decision q = None
 
 -- the bytes of the request that is answered: all those of the connection, once they decide what it asks

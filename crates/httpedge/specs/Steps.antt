@@ -7,7 +7,7 @@ use Rattle.std.specs.FinMap as fin
 use Rattle.serde_json.specs.Data.{Data}
 use Rattle.api_types.specs.TypesFile.{ServedShape}
 use Rattle.history.specs.History.{History, compacted_to}
-use Rattle.api_request.specs.Calls.{Answer}
+use Rattle.api_request.specs.Calls.{Answer, at_tick}
 use Rattle.verbs.specs.Machine.{after}
 use Rattle.verbs.specs.Retyping.{RetypeRefusal, retyped, retyping}
 use Rattle.verbs.specs.Step.{planned}
@@ -108,17 +108,17 @@ answered last_tick c a = with_written c (answer_bytes a a.watch) (answer_phase l
 abbrev pub connection_after : List ServedShape → History → ℕ → Connection → List ℕ → CallDecision → Connection
 connection_after types m last_tick c bytes undecided = with_phase c (waiting bytes)
 connection_after types m last_tick c bytes (refused d) = with_written c (refusal_reply d) ended
-connection_after types m last_tick c bytes (accepted call) = answered last_tick c (planned types m call).answer
+connection_after types m last_tick c bytes (accepted call) = answered last_tick c (planned types m (at_tick last_tick call)).answer
 
--- a call makes its changes
-abbrev pub machine_after : List ServedShape → History → CallDecision → History
-machine_after types m undecided = m
-machine_after types m (refused d) = m
-machine_after types m (accepted call) = after m (planned types m call).changes
+-- a call makes its changes, at the time of the last tick
+abbrev pub machine_after : List ServedShape → History → ℕ → CallDecision → History
+machine_after types m last_tick undecided = m
+machine_after types m last_tick (refused d) = m
+machine_after types m last_tick (accepted call) = after m (planned types m (at_tick last_tick call)).changes
 
 abbrev pub received : State → ℕ → Connection → List ℕ → CallDecision → State
 received s id c bytes decision =
-    with_connection (with_machine s (machine_after s.types s.machine decision)) id (connection_after s.types s.machine s.last_tick c bytes decision)
+    with_connection (with_machine s (machine_after s.types s.machine s.last_tick decision)) id (connection_after s.types s.machine s.last_tick c bytes decision)
 
 -- only a connection that waits receives bytes
 abbrev pub received_by : State → ℕ → Connection → Phase → List ℕ → CallDecision → State

@@ -219,6 +219,7 @@ fn decided(
             Ok((connection, Done::asked(change, prefix)))
         }
         Progress::Call(call) => {
+            let call = call.at_tick(last_tick);
             let served = serve(alloc, api, &call)?;
             let (connection, change) = answered(served, last_tick);
             Ok((connection, Done::asked(change, prefix)))

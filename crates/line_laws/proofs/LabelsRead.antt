@@ -25,6 +25,8 @@ use Rattle.typed.specs.WellTyped.{AreWellTyped, IsWellTyped}
 use Rattle.typed.specs.Printing.{object_or_none, print, print_fields}
 use Rattle.typed.proofs.Fitting.{content_well_typed}
 use Rattle.objects.specs.State.{State}
+use Rattle.objects.specs.SystemMetadata.{Stamp, put_system}
+use Rattle.objects.proofs.SystemMetadata.{past_system}
 use Rattle.objects.specs.ObjectText.{Identity, entry_items, members_printed, metadata_members, metadata_of, object_value, put_entries}
 use Rattle.objects.proofs.Back.{text_read}
 use Rattle.objects.proofs.Envelopes.{found_field, members_back}
@@ -40,15 +42,16 @@ labels_beside : (items : Items) (ms : Members) → get_member (codes "labels") (
 labels_beside no_items ms = refl
 labels_beside (item d ds) ms = get_member-put_other (codes "labels") (codes "managedFields") (array (item d ds)) ms (apart (codes "labels") (codes "managedFields") refl)
 
-labels_in_metadata : (s : Shape) (of : Identity) (v : ℕ) (state : State) (ms : Members) → get_member (codes "labels") (metadata_of s of v state.owners ms) ≡ get_member (codes "labels") ms
+labels_in_metadata : (s : Shape) (of : Identity) (v : Stamp) (state : State) (ms : Members) → get_member (codes "labels") (metadata_of s of v state.owners ms) ≡ get_member (codes "labels") ms
 labels_in_metadata s of v state ms =
     let items = entry_items s of.api_version (fin.entries state.owners) in
-    let versioned = put (codes "resourceVersion") (string (decimal v)) (put_entries items ms) in
+    let said = put_system v.system ms in
+    let versioned = put (codes "resourceVersion") (string (decimal v.version)) (put_entries items said) in
     let spaced = put (codes "namespace") (string of.namespace) versioned in
     get_member-put_other (codes "labels") (codes "name") (string of.name) spaced (apart (codes "labels") (codes "name") refl)
     ∙ get_member-put_other (codes "labels") (codes "namespace") (string of.namespace) versioned (apart (codes "labels") (codes "namespace") refl)
-    ∙ get_member-put_other (codes "labels") (codes "resourceVersion") (string (decimal v)) (put_entries items ms) (apart (codes "labels") (codes "resourceVersion") refl)
-    ∙ labels_beside items ms
+    ∙ get_member-put_other (codes "labels") (codes "resourceVersion") (string (decimal v.version)) (put_entries items said) (apart (codes "labels") (codes "resourceVersion") refl)
+    ∙ labels_beside items said ∙ past_system (codes "labels") refl v.system ms
 
 pub metadata_in_object : (api_version kind : List ℕ) (meta base : Members)
     → get_member (codes "metadata") (put (codes "apiVersion") (string api_version) (put (codes "kind") (string kind) (put (codes "metadata") (object meta) base))) ≡ Some (object meta)
@@ -92,7 +95,7 @@ metadata_labels (struct_of all false) c is formed well_typed =
 metadata_labels (map_of s b) c is formed well_typed = absurd (true≢false (sym is.granular))
 metadata_labels (list_of s kind) c is formed well_typed = absurd (true≢false (sym is.granular))
 
-module _ (all : Fields) (of : Identity) (v : ℕ) (state : State) (key : List ℕ) (lawful : is_lawful (struct_of all false) ≡ true) (m : Shape) (has_metadata : shape_at (codes "metadata") all ≡ Some m) (is_metadata : IsMetadata m)
+module _ (all : Fields) (of : Identity) (v : Stamp) (state : State) (key : List ℕ) (lawful : is_lawful (struct_of all false) ≡ true) (m : Shape) (has_metadata : shape_at (codes "metadata") all ≡ Some m) (is_metadata : IsMetadata m)
     (well_typed : IsWellTyped (struct_of all false) state.content) where
   abbrev in_metadata : Content
   in_metadata = inside (name_text (codes "metadata")) state.content

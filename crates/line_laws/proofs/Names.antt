@@ -16,6 +16,7 @@ use Rattle.selector.specs.Requirement.{Requirement, equals, selects}
 use Rattle.history.specs.History.{Key}
 use Rattle.lists.specs.Labels.{attributes_of, labels_of}
 use Rattle.objects.specs.State.{State}
+use Rattle.objects.specs.SystemMetadata.{Stamp, put_system}
 use Rattle.objects.specs.ObjectText.{Identity, entry_items, members_printed, metadata_members, metadata_of, object_value, put_entries}
 use Rattle.objects.proofs.Back.{text_read}
 use Rattle.line_laws.specs.Names.{KeysNameTexts, NamesAreOfObjects, NamesSelectObjects, SelectByName, name_in}
@@ -23,12 +24,12 @@ use Rattle.line_laws.proofs.LabelsRead.{metadata_in_object}
 
 -- ---- the name of an object's text
 
-name_in_metadata : (s : Shape) (of : Identity) (v : ℕ) (state : State) (ms : Members) → option_and_then as_str (get_member (codes "name") (metadata_of s of v state.owners ms)) ≡ Some of.name
+name_in_metadata : (s : Shape) (of : Identity) (v : Stamp) (state : State) (ms : Members) → option_and_then as_str (get_member (codes "name") (metadata_of s of v state.owners ms)) ≡ Some of.name
 name_in_metadata s of v state ms =
-    let versioned = put (codes "resourceVersion") (string (decimal v)) (put_entries (entry_items s of.api_version (fin.entries state.owners)) ms) in
+    let versioned = put (codes "resourceVersion") (string (decimal v.version)) (put_entries (entry_items s of.api_version (fin.entries state.owners)) (put_system v.system ms)) in
     ap (option_and_then as_str) (get_member-put (codes "name") (string of.name) (put (codes "namespace") (string of.namespace) versioned))
 
-name_in_value : (s : Shape) (of : Identity) (v : ℕ) (state : State) → name_in (object_value s of v state) ≡ Some of.name
+name_in_value : (s : Shape) (of : Identity) (v : Stamp) (state : State) → name_in (object_value s of v state) ≡ Some of.name
 unfolding object_value
 name_in_value s of v state =
     let ms = metadata_members (print s state.content) in

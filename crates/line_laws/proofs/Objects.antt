@@ -27,12 +27,14 @@ use Rattle.typed.specs.WellTyped.{AreWellTyped, IsWellTyped}
 use Rattle.typed.specs.Printing.{each_member, object_or_none, print, print_fields, value_of, with_member, with_named}
 use Rattle.typed.proofs.Fitting.{content_well_typed}
 use Rattle.objects.specs.State.{State}
+use Rattle.objects.specs.SystemMetadata.{Stamp, put_system}
+use Rattle.objects.proofs.SystemMetadata.{past_system}
 use Rattle.objects.specs.WellTyped.{IsWellTypedState}
 use Rattle.objects.specs.ObjectText.{Identity, entry_items, members_printed, metadata_members, metadata_of, object_value, put_entries}
 use Rattle.objects.specs.ReadBack.{max_version}
 use Rattle.objects.proofs.Envelopes.{found_field, members_back}
 use Rattle.objects.proofs.Taken.{apart, cmp}
-use Rattle.objects.proofs.Textual.{value_textual}
+use Rattle.objects.proofs.Textual.{value_clean}
 use Rattle.indexer.specs.Objects.{Stored}
 use Rattle.decoder.specs.declared.malformed.Malformed.TheVariants.{ApiVersion, Kind, Labels, Metadata, Name, Namespace, Number, Version}
 use Rattle.json_values.specs.Texts.{unless_empty, texts_of}
@@ -225,7 +227,7 @@ texts_read : (wanted : Wanted) (namespace name version : List ℕ) (v : ℕ) (la
 texts_read wanted namespace name version v labels body inside_it numbered =
     ap₂ (λ b o. (unless b Namespace >>= λ u. Ok namespace) >>= λ ns. or_malformed Version o >>= λ r. Ok (stored ns name r labels body)) inside_it numbered
 
-module _ (wanted : Wanted) (s : Shape) (of : Identity) (v : ℕ) (state : State) (shaped : IsObjectShape s) (well_typed : IsWellTypedState s state) (low : v ≤ max_version) (has : HasPlace wanted of) where
+module _ (wanted : Wanted) (s : Shape) (of : Identity) (v : Stamp) (state : State) (shaped : IsObjectShape s) (well_typed : IsWellTypedState s state) (low : v.version ≤ max_version) (has : HasPlace wanted of) where
   abbrev base : Members
   base = members_printed (print s state.content)
 
@@ -238,8 +240,11 @@ module _ (wanted : Wanted) (s : Shape) (of : Identity) (v : ℕ) (state : State)
   abbrev top : Members
   top = enveloped (string of.api_version) (string of.kind) (object meta) base
 
+  abbrev said : Members
+  said = put_system v.system own_labels
+
   abbrev listed : Members
-  listed = put_entries (entry_items s of.api_version (fin.entries state.owners)) own_labels
+  listed = put_entries (entry_items s of.api_version (fin.entries state.owners)) said
 
   formed : is_well_formed s ≡ true
   formed = (and_parts (is_well_formed s) _ shaped.1).0
@@ -248,7 +253,7 @@ module _ (wanted : Wanted) (s : Shape) (of : Identity) (v : ℕ) (state : State)
   read_labels = labels_read s state.content shaped formed (content_well_typed s formed state.content well_typed.0)
 
   labels_there : get_member (codes "labels") meta ≡ get_member (codes "labels") own_labels
-  labels_there = labels_stay (string of.name) (string of.namespace) (string (decimal v)) listed ∙ entries_other (entry_items s of.api_version (fin.entries state.owners)) own_labels
+  labels_there = labels_stay (string of.name) (string of.namespace) (string (decimal v.version)) listed ∙ entries_other (entry_items s of.api_version (fin.entries state.owners)) said ∙ past_system (codes "labels") refl v.system own_labels
 
   api_found : text_found (get_member (codes "apiVersion") top) ≡ Some of.api_version
   api_found =
@@ -262,16 +267,16 @@ module _ (wanted : Wanted) (s : Shape) (of : Identity) (v : ℕ) (state : State)
   metadata_found : get_member (codes "metadata") top ≡ Some (object meta)
   metadata_found = metadata_there (string of.api_version) (string of.kind) (object meta) base
 
-  of_meta : of_metadata wanted (object top) meta ≡ of_texts wanted (Some of.name) (Some of.namespace) (Some (decimal v)) (Ok read_labels.0) (cond (has_float (object top)) (Err Number) (Ok (compact_text (object top))))
+  of_meta : of_metadata wanted (object top) meta ≡ of_texts wanted (Some of.name) (Some of.namespace) (Some (decimal v.version)) (Ok read_labels.0) (cond (has_float (object top)) (Err Number) (Ok (compact_text (object top))))
   of_meta =
       ap₂ (λ n ns. of_texts wanted n ns (text_found (get_member (codes "resourceVersion") meta)) (labels_of (option_and_then unless_null (get_member (codes "labels") meta))) (cond (has_float (object top)) (Err Number) (Ok (compact_text (object top)))))
-      (ap text_found (get_member-put (codes "name") (string of.name) (put (codes "namespace") (string of.namespace) (put (codes "resourceVersion") (string (decimal v)) listed))) ∙ filled of.name has.has_name)
-      (ap text_found (namespace_found (string of.name) (string of.namespace) (string (decimal v)) listed) ∙ filled of.namespace has.has_namespace)
+      (ap text_found (get_member-put (codes "name") (string of.name) (put (codes "namespace") (string of.namespace) (put (codes "resourceVersion") (string (decimal v.version)) listed))) ∙ filled of.name has.has_name)
+      (ap text_found (namespace_found (string of.name) (string of.namespace) (string (decimal v.version)) listed) ∙ filled of.namespace has.has_namespace)
       ∙ ap₂ (λ r ls. of_texts wanted (Some of.name) (Some of.namespace) r ls (cond (has_float (object top)) (Err Number) (Ok (compact_text (object top)))))
-      (ap text_found (version_found (string of.name) (string of.namespace) (string (decimal v)) listed) ∙ version_filled (decimal v) v (version_back v low))
+      (ap text_found (version_found (string of.name) (string of.namespace) (string (decimal v.version)) listed) ∙ version_filled (decimal v.version) v.version (version_back v.version low))
       (ap (λ o. labels_of (option_and_then unless_null o)) labels_there ∙ read_labels.1)
 
-  value_read_as : has_float (object top) ≡ false → object_of wanted (object top) ≡ Ok (stored of.namespace of.name v read_labels.0 (compact_text (object top)))
+  value_read_as : has_float (object top) ≡ false → object_of wanted (object top) ≡ Ok (stored of.namespace of.name v.version read_labels.0 (compact_text (object top)))
   value_read_as plain =
       top_is wanted top
       ∙ ap₂ (λ a k. of_top wanted (object top) a k (get_member (codes "metadata") top)) api_found kind_found
@@ -279,8 +284,8 @@ module _ (wanted : Wanted) (s : Shape) (of : Identity) (v : ℕ) (state : State)
       ∙ wanted_top wanted (object top) of.api_version of.kind meta
       (ap (bytes_eq of.api_version) (sym has.of_version) ∙ itself of.api_version) (ap (bytes_eq of.kind) (sym has.of_kind) ∙ itself of.kind)
       ∙ of_meta
-      ∙ ap (λ (b : Bool). of_texts wanted (Some of.name) (Some of.namespace) (Some (decimal v)) (Ok read_labels.0) (cond b (Err Number) (Ok (compact_text (object top))))) plain
-      ∙ texts_read wanted of.namespace of.name (decimal v) v read_labels.0 (compact_text (object top)) has.within (version_back v low)
+      ∙ ap (λ (b : Bool). of_texts wanted (Some of.name) (Some of.namespace) (Some (decimal v.version)) (Ok read_labels.0) (cond b (Err Number) (Ok (compact_text (object top))))) plain
+      ∙ texts_read wanted of.namespace of.name (decimal v.version) v.version read_labels.0 (compact_text (object top)) has.within (version_back v.version low)
 
   value_is : object_value s of v state ≡ object top
   unfolding object_value
@@ -288,7 +293,7 @@ module _ (wanted : Wanted) (s : Shape) (of : Identity) (v : ℕ) (state : State)
 
   pub object_read : (o : Stored) × (object_of wanted (object_value s of v state) ≡ Ok o) × IsStored s of v state o
   object_read = (
-    stored of.namespace of.name v read_labels.0 (compact_text (object top)),
-    (ap (object_of wanted) value_is ∙ value_read_as (ap has_float (sym value_is) ∙ (value_textual s shaped.1 of v state well_typed.0).1)),
+    stored of.namespace of.name v.version read_labels.0 (compact_text (object top)),
+    (ap (object_of wanted) value_is ∙ value_read_as (ap has_float (sym value_is) ∙ value_clean s shaped.1 of v state well_typed.0)),
     record { of_namespace = refl; of_name = refl; of_revision = refl; labels_are = read_labels.1; text_is = sym (text_is s of v state ∙ ap compact_text value_is) },
   )

@@ -15,6 +15,7 @@ use Rattle.history.specs.Seen.{SeenPage}
 use Rattle.lists.specs.Body.{Collection, continued_at, item_texts, joined_text, list_text, list_value, metadata_of}
 use Rattle.lists.proofs.Values.{lists_are_json}
 use Rattle.objects.specs.ObjectText.{object_value}
+use Rattle.objects.specs.SystemMetadata.{stamped}
 use Rattle.objects.specs.ReadBack.{max_version}
 use Rattle.objects.proofs.Back.{text_read}
 use Rattle.indexer.specs.Objects.{Stored}
@@ -152,16 +153,16 @@ module _ (wanted : Wanted) (of : Collection) (is : IsWanted wanted of) where
 
   module _ (k : Key) (o : Object) (kept : IsKept of k o) (within : is_in wanted.namespace k.namespace ≡ true) where
     abbrev value : Data
-    value = object_value kept.shape (identity_of of k) o.revision kept.state
+    value = object_value kept.shape (identity_of of k) (stamped o.revision kept.system) kept.state
 
     fits : IsShown value × (o.body ≡ compact_text value)
-    fits = object_shown kept.shape (identity_of of k) o.revision kept.state o.body kept.shaped kept.says
+    fits = object_shown kept.shape (identity_of of k) (stamped o.revision kept.system) kept.state o.body kept.shaped kept.says
 
-    pub taken_as : (x : Stored) × (object_of wanted value ≡ Ok x) × IsStored kept.shape (identity_of of k) o.revision kept.state x
-    taken_as = object_read wanted kept.shape (identity_of of k) o.revision kept.state kept.shaped kept.says.well_typed kept.says.numbered (place k o kept within)
+    pub taken_as : (x : Stored) × (object_of wanted value ≡ Ok x) × IsStored kept.shape (identity_of of k) (stamped o.revision kept.system) kept.state x
+    taken_as = object_read wanted kept.shape (identity_of of k) (stamped o.revision kept.system) kept.state kept.shaped kept.says.well_typed kept.says.numbered (place k o kept within)
 
     low : depth value ≤ 22
-    low = value_within kept.shape kept.shaped.1 kept.state kept.says.well_typed.0 (identity_of of k) o.revision
+    low = value_within kept.shape kept.shaped.1 kept.state kept.says.well_typed.0 (identity_of of k) (stamped o.revision kept.system)
 
     pub one_read : IsReadAs wanted k o taken_as.0
     one_read =
@@ -171,7 +172,7 @@ module _ (wanted : Wanted) (of : Collection) (is : IsWanted wanted of) where
           of_name = stored.of_name;
           of_revision = stored.of_revision;
           text_is = stored.text_is ∙ sym kept.says.is_text;
-          is_read = ap (λ d. or_malformed Json d >>= object_of wanted) (text_read kept.shape (identity_of of k) o.revision kept.state o.body kept.shaped kept.says) ∙ taken_as.1;
+          is_read = ap (λ d. or_malformed Json d >>= object_of wanted) (text_read kept.shape (identity_of of k) (stamped o.revision kept.system) kept.state o.body kept.shaped kept.says) ∙ taken_as.1;
         }
 
     one_more : (es : Entries) → AreItems wanted es → AreItems wanted ((k, o) ∷ es)

@@ -1,5 +1,5 @@
 -- An object's text at another version, and how deep an object's value is.
-use Rattle.std.proofs.Common.{◌≡◌, ℕ, suc, ◌≤◌, Bool, true, false, cond, List, [], ◌∷◌, Option, Some, None, Ordering, Less, Equal, Greater, refl, sym, ap, ap₂, subst, ◌∙◌, arith, zero-le}
+use Rattle.std.proofs.Common.{◌≡◌, ℕ, suc, ◌≤◌, Bool, true, cond, List, [], ◌∷◌, Option, Some, None, Ordering, Less, Equal, Greater, refl, sym, ap, ap₂, subst, ◌∙◌, arith, zero-le}
 use Rattle.std.specs.Prelude.{codes, decimal, option_and_then, option_map, unwrap_or}
 use Rattle.std.specs.FinMap as fin
 use Rattle.std.specs.Ordering.{match_ordering}
@@ -7,7 +7,7 @@ use Rattle.std.proofs.lemmas.Bool.{and_parts}
 use Rattle.serde_json.specs.Data.{Data, null, boolean, number, string, array, object, Items, no_items, item, Members, no_members, member, put, depth, items_depth, members_depth}
 use Rattle.serde_json.specs.Find.{as_object, get_member}
 use Rattle.serde_json.specs.Read.{read}
-use Rattle.serde_json.specs.Written.{compact_text, has_float}
+use Rattle.serde_json.specs.Written.{compact_text}
 use Rattle.serde_json.proofs.Views.{get_member-put, get_member-put_other}
 use Rattle.fieldpath.specs.Scalars.{ascend}
 use Rattle.fieldpath.specs.Encodable.{member_names}
@@ -29,10 +29,11 @@ use Rattle.objects.specs.State.{State}
 use Rattle.objects.specs.ObjectText.{Identity, entry_items, entry_members, entry_value, members_printed, metadata_members, metadata_of, object_text, object_value, put_entries, put_filled}
 use Rattle.objects.specs.Owners.{Manager, Owners, operation_text, subresource_text}
 use Rattle.json_values.specs.Members.{less}
-use Rattle.objects.specs.ReadBack.{IsObjectText, max_version}
+use Rattle.objects.specs.ReadBack.{IsCounted, IsObjectText, max_version}
+use Rattle.objects.specs.SystemMetadata.{Stamp, System, at_version, put_deletion, put_life, put_system, whole_value}
 use Rattle.objects.proofs.Back.{text_read}
 use Rattle.objects.proofs.Taken.{apart, cmp, found_depth, put_back, same_text}
-use Rattle.objects.proofs.Textual.{value_textual}
+use Rattle.objects.proofs.Textual.{value_clean, value_textual}
 use Rattle.watchline.specs.Versions.{text_at_version, text_of, value_at, value_of}
 use Rattle.line_laws.specs.Shown.{IsShown}
 
@@ -91,30 +92,27 @@ value_over revision api_version kind meta new base is up =
     )
 
 module _ (s : Shape) (of : Identity) (state : State) (lawful : is_lawful s ≡ true) (content : IsContent s state.content) where
-  pub object_over : (v r : ℕ) → value_at r (object_value s of v state) ≡ Some (object_value s of r state)
+  pub object_over : (v : Stamp) (r : ℕ) → IsCounted v.system → value_at r (object_value s of v state) ≡ Some (object_value s of (at_version r v) state)
   unfolding object_value
-  object_over v r =
+  object_over v r counted =
       let base = members_printed (print s state.content) in
       let labels = metadata_members (print s state.content) in
-      value_over r (string of.api_version) (string of.kind) (metadata_of s of v state.owners labels) (metadata_of s of r state.owners labels) base
-      (version_over (string of.name) (string of.namespace) (string (decimal v)) (string (decimal r)) (put_entries (entry_items s of.api_version (fin.entries state.owners)) labels))
-      (value_textual s lawful of r state content).0.0
+      value_over r (string of.api_version) (string of.kind) (metadata_of s of v state.owners labels) (metadata_of s of (at_version r v) state.owners labels) base
+      (version_over (string of.name) (string of.namespace) (string (decimal v.version)) (string (decimal r)) (put_entries (entry_items s of.api_version (fin.entries state.owners)) (put_system v.system labels)))
+      (value_textual s lawful of (at_version r v) state content counted).0.0
 
-  clean : (r : ℕ) → has_float (object_value s of r state) ≡ false
-  clean r = (value_textual s lawful of r state content).1
-
-  pub text_over : (v r : ℕ) (text : List ℕ) → read text ≡ Some (object_value s of v state) → text_at_version r text ≡ object_text s of r state
+  pub text_over : (v : Stamp) (r : ℕ) (text : List ℕ) → IsCounted v.system → read text ≡ Some (object_value s of v state) → text_at_version r text ≡ object_text s of (at_version r v) state
   unfolding object_text
-  text_over v r text is =
+  text_over v r text counted is =
       ap (λ o. unwrap_or (option_and_then text_of (option_and_then (value_at r) o)) text) is
-      ∙ ap (λ o. unwrap_or (option_and_then text_of o) text) (object_over v r)
-      ∙ ap (λ (b : Bool). unwrap_or (cond b None (Some (compact_text (object_value s of r state)))) text) (clean r)
+      ∙ ap (λ o. unwrap_or (option_and_then text_of o) text) (object_over v r counted)
+      ∙ ap (λ (b : Bool). unwrap_or (cond b None (Some (compact_text (object_value s of (at_version r v) state)))) text) (value_clean s lawful of (at_version r v) state content)
 
-pub shows_text : (s : Shape) (of : Identity) (v r : ℕ) (state : State) (text : List ℕ) → IsObjectShape s → IsObjectText s of v state text → text_at_version r text ≡ object_text s of r state
-shows_text s of v r state text shaped said = text_over s of state shaped.1 said.well_typed.0 v r text (text_read s of v state text shaped said)
+pub shows_text : (s : Shape) (of : Identity) (v : Stamp) (r : ℕ) (state : State) (text : List ℕ) → IsObjectShape s → IsObjectText s of v state text → text_at_version r text ≡ object_text s of (at_version r v) state
+shows_text s of v r state text shaped said = text_over s of state shaped.1 said.well_typed.0 v r text said.counted (text_read s of v state text shaped said)
 
-pub shows_object : (s : Shape) (of : Identity) (v r : ℕ) (state : State) (text : List ℕ) → IsObjectShape s → IsObjectText s of v state text → r ≤ max_version → IsObjectText s of r state (text_at_version r text)
-shows_object s of v r state text shaped said low = record { well_typed = said.well_typed; numbered = low; is_text = shows_text s of v r state text shaped said }
+pub shows_object : (s : Shape) (of : Identity) (v : Stamp) (r : ℕ) (state : State) (text : List ℕ) → IsObjectShape s → IsObjectText s of v state text → r ≤ max_version → IsObjectText s of (at_version r v) state (text_at_version r text)
+shows_object s of v r state text shaped said low = record { well_typed = said.well_typed; numbered = low; counted = said.counted; is_text = shows_text s of v r state text shaped said }
 
 -- ---- how deep
 
@@ -130,6 +128,15 @@ within_text n k t ms h = put_depth n k (string t) ms zero-le h
 within_filled : (n : ℕ) (k t : List ℕ) (ms : Members) → Within n ms → Within n (put_filled k t ms)
 within_filled n k [] ms h = h
 within_filled n k (b ∷ bs) ms h = within_text n k (b ∷ bs) ms h
+
+system_within : (n : ℕ) (system : Option System) (ms : Members) → Within n ms → Within n (put_system system ms)
+system_within n None ms h = h
+system_within n (Some s) ms h =
+    within_text n (codes "uid") s.uid (put_life (Some s) ms) (within_text n (codes "creationTimestamp") s.created _ (put_depth n (codes "generation") (whole_value s.generation) _ zero-le (deletion_within s.deleted)))
+  where
+    deletion_within : (deleted : Option (List ℕ)) → Within n (put_deletion deleted ms)
+    deletion_within None = h
+    deletion_within (Some moment) = put_depth n (codes "deletionGracePeriodSeconds") (whole_value 0) _ zero-le (within_text n (codes "deletionTimestamp") moment ms h)
 
 within_printed : (n : ℕ) (o : Option Data) → ((d : Data) → o ≡ Some d → depth d ≤ n) → Within n (members_printed o)
 within_printed n None h = zero-le
@@ -167,10 +174,10 @@ module _ (s : Shape) (lawful : is_lawful s ≡ true) where
       one_more : (a : ℕ) → a ≤ 19 → suc a ≤ 20
       one_more a k = omega (arith, k)
 
-  metadata_within : (of : Identity) (version : ℕ) (owners : Owners) (labels : Members) → Within 20 labels → Within 20 (metadata_of s of version owners labels)
-  metadata_within of version owners labels low =
-      within_text 20 (codes "name") of.name _ (within_text 20 (codes "namespace") of.namespace _ (within_text 20 (codes "resourceVersion") (decimal version) _
-      (entries_within (entry_items s of.api_version (fin.entries owners)) labels (items_within of.api_version (fin.entries owners)) low)))
+  metadata_within : (of : Identity) (stamp : Stamp) (owners : Owners) (labels : Members) → Within 20 labels → Within 20 (metadata_of s of stamp owners labels)
+  metadata_within of stamp owners labels low =
+      within_text 20 (codes "name") of.name _ (within_text 20 (codes "namespace") of.namespace _ (within_text 20 (codes "resourceVersion") (decimal stamp.version) _
+      (entries_within (entry_items s of.api_version (fin.entries owners)) (put_system stamp.system labels) (items_within of.api_version (fin.entries owners)) (system_within 20 stamp.system labels low))))
 
   module _ (state : State) (content : IsContent s state.content) where
     printed_within : (d : Data) → print s state.content ≡ Some d → depth d ≤ 16
@@ -189,7 +196,7 @@ module _ (s : Shape) (lawful : is_lawful s ≡ true) where
         let base = members_printed (print s state.content) in
         within_printed 16 (get_member (codes "metadata") base) (λ d is. found_depth 16 (codes "metadata") d base base_within is)
 
-    pub value_within : (of : Identity) (v : ℕ) → depth (object_value s of v state) ≤ 22
+    pub value_within : (of : Identity) (v : Stamp) → depth (object_value s of v state) ≤ 22
     unfolding object_value
     value_within of v =
         let base = members_printed (print s state.content) in
@@ -200,11 +207,11 @@ module _ (s : Shape) (lawful : is_lawful s ≡ true) where
         let all : Within 21 (enveloped (string of.api_version) (string of.kind) (object (metadata_of s of v state.owners labels)) base) = within_text 21 (codes "apiVersion") of.api_version _ (within_text 21 (codes "kind") of.kind _ with_metadata) in
         omega (arith, all)
 
-pub has_room : (s : Shape) (of : Identity) (v : ℕ) (state : State) → is_lawful s ≡ true → IsContent s state.content → IsShown (object_value s of v state)
-has_room s of v state lawful content =
+pub has_room : (s : Shape) (of : Identity) (v : Stamp) (state : State) → is_lawful s ≡ true → IsContent s state.content → IsCounted v.system → IsShown (object_value s of v state)
+has_room s of v state lawful content counted =
     let low : depth (object_value s of v state) ≤ 22 = value_within s lawful state content of v in
-    record { encodable = (value_textual s lawful of v state content).0; whole = (value_textual s lawful of v state content).1; shallow = omega (arith, low) }
+    record { encodable = (value_textual s lawful of v state content counted).0; whole = value_clean s lawful of v state content; shallow = omega (arith, low) }
 
-pub text_is : (s : Shape) (of : Identity) (v : ℕ) (state : State) → object_text s of v state ≡ compact_text (object_value s of v state)
+pub text_is : (s : Shape) (of : Identity) (v : Stamp) (state : State) → object_text s of v state ≡ compact_text (object_value s of v state)
 unfolding object_text
 text_is s of v state = refl

@@ -14,8 +14,9 @@ use Rattle.names.proofs.Decimals.{exact}
 use Rattle.schema.specs.ObjectShape.{IsObjectShape}
 use Rattle.schema.specs.Shape.{Shape}
 use Rattle.objects.specs.State.{State}
+use Rattle.objects.specs.SystemMetadata.{Stamp, at_version}
 use Rattle.objects.specs.ObjectText.{Identity, object_value}
-use Rattle.objects.specs.ReadBack.{IsObjectText, max_version}
+use Rattle.objects.specs.ReadBack.{IsCounted, IsObjectText, max_version}
 use Rattle.history.specs.History.{Object}
 use Rattle.history.specs.Seen.{SeenChange, SeenKind, Added, Modified, Deleted}
 use Rattle.indexer.specs.Objects.{Stored}
@@ -29,7 +30,7 @@ use Rattle.decoder.specs.Wanted.{Wanted, api_version_of}
 use Rattle.watchline.specs.declared.event.EventType.{EventType}
 use Rattle.watchline.specs.declared.event.EventType.TheVariants as event
 use Rattle.watchline.specs.Lines.{bookmark_value, expired_message, expired_value, text_shown, type_of}
-use Rattle.line_laws.specs.Shown.{IsShown, line_value, shown, taken, version_shown}
+use Rattle.line_laws.specs.Shown.{IsShown, line_value, shown, taken, stamp_shown}
 use Rattle.line_laws.proofs.Renumbered.{has_room, object_over, shows_text, text_is}
 use Rattle.line_laws.proofs.Texts.{decimal_utf8, has_texts, renumbered_texts, text_utf8}
 use Rattle.line_laws.proofs.Values.{line_in_value, line_read}
@@ -68,49 +69,55 @@ object_line wanted Added (object ms) o is = ap (λ (r : Read Stored). r >>= λ x
 object_line wanted Modified (object ms) o is = ap (λ (r : Read Stored). r >>= λ x. Ok (reads.put x)) is
 object_line wanted Deleted (object ms) o is = ap (λ (r : Read Stored). r >>= λ x. Ok (reads.deleted x)) is
 
-pub shown_text : (k : SeenKind) (s : Shape) (of : Identity) (v : ℕ) (state : State) (o : Object) → IsObjectShape s → IsObjectText s of v state o.body
-    → text_shown k o ≡ compact_text (object_value s of (version_shown k v o.revision) state)
+-- at any version it has the same generation
+pub shown_counted : (k : SeenKind) (v : Stamp) (revision : ℕ) → IsCounted v.system → IsCounted (stamp_shown k v revision).system
+shown_counted Added v revision counted = counted
+shown_counted Modified v revision counted = counted
+shown_counted Deleted v revision counted = counted
+
+pub shown_text : (k : SeenKind) (s : Shape) (of : Identity) (v : Stamp) (state : State) (o : Object) → IsObjectShape s → IsObjectText s of v state o.body
+    → text_shown k o ≡ compact_text (object_value s of (stamp_shown k v o.revision) state)
 shown_text Added s of v state o shaped said = said.is_text ∙ text_is s of v state
 shown_text Modified s of v state o shaped said = said.is_text ∙ text_is s of v state
-shown_text Deleted s of v state o shaped said = shows_text s of v o.revision state o.body shaped said ∙ text_is s of o.revision state
+shown_text Deleted s of v state o shaped said = shows_text s of v o.revision state o.body shaped said ∙ text_is s of (at_version o.revision v) state
 
 -- with its own version, or with that of the deletion
-shown_utf8 : (k : SeenKind) (s : Shape) (of : Identity) (v : ℕ) (state : State) (o : Object) → IsObjectShape s → IsObjectText s of v state o.body → o.revision ≤ max_version → IsUtf8 o.body
-    → IsUtf8 (compact_text (object_value s of (version_shown k v o.revision) state))
+shown_utf8 : (k : SeenKind) (s : Shape) (of : Identity) (v : Stamp) (state : State) (o : Object) → IsObjectShape s → IsObjectText s of v state o.body → o.revision ≤ max_version → IsUtf8 o.body
+    → IsUtf8 (compact_text (object_value s of (stamp_shown k v o.revision) state))
 shown_utf8 Added s of v state o shaped said low text = subst IsUtf8 (said.is_text ∙ text_is s of v state) text
 shown_utf8 Modified s of v state o shaped said low text = subst IsUtf8 (said.is_text ∙ text_is s of v state) text
 shown_utf8 Deleted s of v state o shaped said low text =
-    let encodable = (has_room s of v state shaped.1 said.well_typed.0).encodable in
+    let encodable = (has_room s of v state shaped.1 said.well_typed.0 said.counted).encodable in
     let texts = has_texts (object_value s of v state) encodable (subst IsUtf8 (said.is_text ∙ text_is s of v state) text) in
-    text_utf8 (object_value s of o.revision state)
-    (renumbered_texts o.revision (object_value s of v state) (object_value s of o.revision state) low texts (object_over s of state shaped.1 said.well_typed.0 v o.revision))
+    text_utf8 (object_value s of (at_version o.revision v) state)
+    (renumbered_texts o.revision (object_value s of v state) (object_value s of (at_version o.revision v) state) low texts (object_over s of state shaped.1 said.well_typed.0 v o.revision said.counted))
 
-pub change_read : (wanted : Wanted) (s : Shape) (of : Identity) (v : ℕ) (state : State) (x : SeenChange) (o : Stored) → IsObjectShape s → IsObjectText s of v state x.object.body
-    → x.object.revision ≤ max_version → IsUtf8 x.object.body → object_of wanted (object_value s of (version_shown x.kind v x.object.revision) state) ≡ Ok o
+pub change_read : (wanted : Wanted) (s : Shape) (of : Identity) (v : Stamp) (state : State) (x : SeenChange) (o : Stored) → IsObjectShape s → IsObjectText s of v state x.object.body
+    → x.object.revision ≤ max_version → IsUtf8 x.object.body → object_of wanted (object_value s of (stamp_shown x.kind v x.object.revision) state) ≡ Ok o
     → line_in wanted (shown (type_of x.kind) (text_shown x.kind x.object)) ≡ Ok (taken x.kind o)
 change_read wanted s of v state x o shaped said low text is =
-    let version = version_shown x.kind v x.object.revision in
-    let same : text_shown x.kind x.object ≡ compact_text (object_value s of version state) = shown_text x.kind s of v state x.object shaped said in
+    let stamp = stamp_shown x.kind v x.object.revision in
+    let same : text_shown x.kind x.object ≡ compact_text (object_value s of stamp state) = shown_text x.kind s of v state x.object shaped said in
     ap (λ t. line_in wanted (shown (type_of x.kind) t)) same
-    ∙ line_says wanted (type_of x.kind) (object_value s of version state) (taken x.kind o) (has_room s of version state shaped.1 said.well_typed.0) (shown_utf8 x.kind s of v state x.object shaped said low text)
-    (object_line wanted x.kind (object_value s of version state) o is)
+    ∙ line_says wanted (type_of x.kind) (object_value s of stamp state) (taken x.kind o) (has_room s of stamp state shaped.1 said.well_typed.0 (shown_counted x.kind v x.object.revision said.counted)) (shown_utf8 x.kind s of v state x.object shaped said low text)
+    (object_line wanted x.kind (object_value s of stamp state) o is)
 
 -- what the line of a change says, as JSON
-pub change_says : (wanted : Wanted) (s : Shape) (of : Identity) (v : ℕ) (state : State) (x : SeenChange) (o : Stored) → IsObjectShape s → IsObjectText s of v state x.object.body
-    → object_of wanted (object_value s of (version_shown x.kind v x.object.revision) state) ≡ Ok o → SaysLine wanted (shown (type_of x.kind) (text_shown x.kind x.object)) (taken x.kind o)
+pub change_says : (wanted : Wanted) (s : Shape) (of : Identity) (v : Stamp) (state : State) (x : SeenChange) (o : Stored) → IsObjectShape s → IsObjectText s of v state x.object.body
+    → object_of wanted (object_value s of (stamp_shown x.kind v x.object.revision) state) ≡ Ok o → SaysLine wanted (shown (type_of x.kind) (text_shown x.kind x.object)) (taken x.kind o)
 change_says wanted s of v state x o shaped said is =
     let what : EventType = type_of x.kind in
-    let version : ℕ = version_shown x.kind v x.object.revision in
-    let value : Data = object_value s of version state in
+    let stamp : Stamp = stamp_shown x.kind v x.object.revision in
+    let value : Data = object_value s of stamp state in
     record {
       value = line_value what value;
-      is_json = ap (λ t. read (shown what t)) (shown_text x.kind s of v state x.object shaped said) ∙ line_read what value (has_room s of version state shaped.1 said.well_typed.0);
+      is_json = ap (λ t. read (shown what t)) (shown_text x.kind s of v state x.object shaped said) ∙ line_read what value (has_room s of stamp state shaped.1 said.well_typed.0 (shown_counted x.kind v x.object.revision said.counted));
       is_line = object_line wanted x.kind value o is;
     }
 
-pub object_shown : (s : Shape) (of : Identity) (v : ℕ) (state : State) (text : List ℕ) → IsObjectShape s → IsObjectText s of v state text
+pub object_shown : (s : Shape) (of : Identity) (v : Stamp) (state : State) (text : List ℕ) → IsObjectShape s → IsObjectText s of v state text
     → IsShown (object_value s of v state) × (text ≡ compact_text (object_value s of v state))
-object_shown s of v state text shaped said = (has_room s of v state shaped.1 said.well_typed.0, said.is_text ∙ text_is s of v state)
+object_shown s of v state text shaped said = (has_room s of v state shaped.1 said.well_typed.0 said.counted, said.is_text ∙ text_is s of v state)
 
 -- ---- bookmarks
 

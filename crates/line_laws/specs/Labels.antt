@@ -10,6 +10,7 @@ use Rattle.schema.specs.ObjectShape.{IsObjectShape}
 use Rattle.schema.specs.Shape.{Shape}
 use Rattle.lists.specs.Labels.{labels_of}
 use Rattle.objects.specs.State.{State}
+use Rattle.objects.specs.SystemMetadata.{Stamp}
 use Rattle.objects.specs.ObjectText.{Identity}
 use Rattle.objects.specs.ReadBack.{IsObjectText}
 
@@ -31,5 +32,5 @@ label_in c key = option_and_then text_leaf_value (fin.get c (label_path key))
 -- by each key, an object's text gives the label that its content has
 abbrev pub LabelsAreOfContents : Type 0
 LabelsAreOfContents =
-    (s : Shape) (of : Identity) (version : ℕ) (state : State) (text key : List ℕ) → IsObjectShape s → IsObjectText s of version state text
+    (s : Shape) (of : Identity) (stamp : Stamp) (state : State) (text key : List ℕ) → IsObjectShape s → IsObjectText s of stamp state text
     → value_at key (labels_of text) ≡ label_in state.content key

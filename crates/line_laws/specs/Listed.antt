@@ -6,6 +6,7 @@ use Rattle.std.specs.declared.result.Result.TheVariants.{Ok}
 use Rattle.schema.specs.ObjectShape.{IsObjectShape}
 use Rattle.schema.specs.Shape.{Shape}
 use Rattle.objects.specs.State.{State}
+use Rattle.objects.specs.SystemMetadata.{System, stamped}
 use Rattle.objects.specs.ObjectText.{Identity}
 use Rattle.objects.specs.ReadBack.{IsObjectText}
 use Rattle.history.specs.History.{Key, Object, Objects}
@@ -33,8 +34,9 @@ identity_of of k = record { api_version = of.api_version; kind = of.item_kind; n
 pub record IsKept (of : Collection) (k : Key) (o : Object) : Type 0 where
   pub shape : Shape
   pub shaped : IsObjectShape shape
+  pub system : Option System
   pub state : State
-  pub says : IsObjectText shape (identity_of of k) o.revision state o.body
+  pub says : IsObjectText shape (identity_of of k) (stamped o.revision system) state o.body
   pub has_namespace : k.namespace ≡ [] → ⊥
   pub has_name : k.name ≡ [] → ⊥
 

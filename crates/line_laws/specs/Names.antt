@@ -12,6 +12,7 @@ use Rattle.schema.specs.Shape.{Shape}
 use Rattle.history.specs.History.{Key}
 use Rattle.lists.specs.Labels.{attributes_of, labels_of}
 use Rattle.objects.specs.State.{State}
+use Rattle.objects.specs.SystemMetadata.{Stamp}
 use Rattle.objects.specs.ObjectText.{Identity}
 use Rattle.objects.specs.ReadBack.{IsObjectText}
 
@@ -28,12 +29,12 @@ name_of text = option_and_then name_in (read text)
 
 -- the name that an object's text gives is the object's
 abbrev pub NamesAreOfObjects : Type 0
-NamesAreOfObjects = (s : Shape) (of : Identity) (version : ℕ) (state : State) (text : List ℕ) → IsObjectShape s → IsObjectText s of version state text → name_of text ≡ Some of.name
+NamesAreOfObjects = (s : Shape) (of : Identity) (stamp : Stamp) (state : State) (text : List ℕ) → IsObjectShape s → IsObjectText s of stamp state text → name_of text ≡ Some of.name
 
 -- so what selectors see of an object, by the name of its key, is what its text says
 abbrev pub KeysNameTexts : Type 0
 KeysNameTexts =
-    (k : Key) (s : Shape) (of : Identity) (version : ℕ) (state : State) (text : List ℕ) → IsObjectShape s → IsObjectText s of version state text → of.name ≡ k.name
+    (k : Key) (s : Shape) (of : Identity) (stamp : Stamp) (state : State) (text : List ℕ) → IsObjectShape s → IsObjectText s of stamp state text → of.name ≡ k.name
     → attributes_of k text ≡ attributes (name_of text) (labels_of text)
 
 -- what selects an object selects it just where its key has this name

@@ -10,6 +10,7 @@ use Rattle.indexer.specs.Objects.{Stored}
 use Rattle.schema.specs.Shape.{Shape}
 use Rattle.typed.specs.Printing.{print}
 use Rattle.objects.specs.State.{State}
+use Rattle.objects.specs.SystemMetadata.{Stamp, at_version}
 use Rattle.objects.specs.ObjectText.{Identity, metadata_members, object_text}
 use Rattle.decoder.specs.Lines as reads
 use Rattle.decoder.specs.Members.{at}
@@ -34,11 +35,11 @@ pub record IsShown (d : Data) : Type 0 where
   pub whole : has_float d ≡ false
   pub shallow : depth d < max_depth
 
--- the version in the text that a line shows: the body's own, or the deletion's
-abbrev pub version_shown : SeenKind → ℕ → ℕ → ℕ
-version_shown Added own revision = own
-version_shown Modified own revision = own
-version_shown Deleted own revision = revision
+-- what the system says in the text that a line shows: at the body's own version, or at the deletion's
+abbrev pub stamp_shown : SeenKind → Stamp → ℕ → Stamp
+stamp_shown Added own revision = own
+stamp_shown Modified own revision = own
+stamp_shown Deleted own revision = at_version revision own
 
 -- what a client takes from the line of such a change
 abbrev pub taken : SeenKind → Stored → reads.Line
@@ -59,9 +60,9 @@ pub record HasPlace (wanted : Wanted) (of : Identity) : Type 0 where
   pub has_name : of.name ≡ [] → ⊥
 
 -- what a client keeps of an object is that object: its key, its version, the labels that its content prints, its text
-pub record IsStored (s : Shape) (of : Identity) (version : ℕ) (state : State) (o : Stored) : Type 0 where
+pub record IsStored (s : Shape) (of : Identity) (stamp : Stamp) (state : State) (o : Stored) : Type 0 where
   pub of_namespace : o.namespace ≡ of.namespace
   pub of_name : o.name ≡ of.name
-  pub of_revision : o.revision ≡ version
+  pub of_revision : o.revision ≡ stamp.version
   pub labels_are : labels_of (at (codes "labels") (metadata_members (print s state.content))) ≡ Ok o.labels
-  pub text_is : o.text ≡ object_text s of version state
+  pub text_is : o.text ≡ object_text s of stamp state

@@ -8,6 +8,7 @@ ghost use Rattle.fieldpath.specs.Encodable.{IsEncodable};
 ghost use Rattle.schema.specs.ObjectShape.{IsObjectShape};
 ghost use Rattle.schema.specs.Shape.{Shape};
 ghost use Rattle.objects.specs.State.{State};
+ghost use Rattle.objects.specs.SystemMetadata.{Stamp};
 ghost use Rattle.objects.specs.WellTyped.{IsWellTypedState};
 ghost use Rattle.objects.specs.ObjectText.{Identity, object_value};
 ghost use Rattle.objects.specs.ReadBack.{IsObjectText, max_version};
@@ -21,7 +22,7 @@ ghost use Rattle.decoder.specs.Wanted.{Wanted, api_version_of};
 ghost use Rattle.watchline.specs.declared.event.EventType.{EventType};
 ghost use Rattle.watchline.specs.declared.event.EventType.TheVariants as event;
 ghost use Rattle.watchline.specs.Lines.{bookmark_line, bookmark_value, error_line, expired_message, expired_value, line, text_shown, type_of};
-ghost use Rattle.line_laws.specs.Shown.{HasPlace, IsShown, IsStored, is_feed, line_value, shown, taken, version_shown};
+ghost use Rattle.line_laws.specs.Shown.{HasPlace, IsShown, IsStored, is_feed, line_value, shown, taken, stamp_shown};
 
 /// A line has one line feed, its last byte, whatever value stands in it.
 pub fn lines_are_lines()
@@ -33,10 +34,10 @@ pub fn lines_are_lines()
 /// the version that is shown; a bookmark's version; an error. An object nests no deeper than what a line shows may.
 pub fn lines_are_read()
     ensures json { (what : EventType) (d : Data) → IsShown d → IsUtf8 (compact_text d) → value_in (shown what (compact_text d)) ≡ Ok (line_value what d) }
-    ensures objects { (s : Shape) (of : Identity) (v : ℕ) (state : State) (text : List ℕ) → IsObjectShape s → IsObjectText s of v state text
+    ensures objects { (s : Shape) (of : Identity) (v : Stamp) (state : State) (text : List ℕ) → IsObjectShape s → IsObjectText s of v state text
         → IsShown (object_value s of v state) × (text ≡ compact_text (object_value s of v state)) }
-    ensures changes { (wanted : Wanted) (s : Shape) (of : Identity) (v : ℕ) (state : State) (x : SeenChange) (o : Stored) → IsObjectShape s → IsObjectText s of v state x.object.body
-        → x.object.revision ≤ max_version → IsUtf8 x.object.body → object_of wanted (object_value s of (version_shown x.kind v x.object.revision) state) ≡ Ok o
+    ensures changes { (wanted : Wanted) (s : Shape) (of : Identity) (v : Stamp) (state : State) (x : SeenChange) (o : Stored) → IsObjectShape s → IsObjectText s of v state x.object.body
+        → x.object.revision ≤ max_version → IsUtf8 x.object.body → object_of wanted (object_value s of (stamp_shown x.kind v x.object.revision) state) ≡ Ok o
         → line_in wanted (shown (type_of x.kind) (text_shown x.kind x.object)) ≡ Ok (taken x.kind o) }
     ensures bookmarks { (wanted : Wanted) (r : ℕ) → r ≤ max_version → IsUtf8 (api_version_of wanted) → IsUtf8 wanted.kind → (wanted.kind ≡ [] → ⊥)
         → line_in wanted (shown event.Bookmark (compact_text (bookmark_value (api_version_of wanted) wanted.kind (decimal r)))) ≡ Ok (reads.bookmark r) }
@@ -47,6 +48,6 @@ pub fn lines_are_read()
 /// An object's value is read, from a line as from a list, as that object: its key, its version, its labels and its
 /// text, where a client asks for its type and its namespace.
 pub fn objects_are_read()
-    ensures { (wanted : Wanted) (s : Shape) (of : Identity) (v : ℕ) (state : State) → IsObjectShape s → IsWellTypedState s state → v ≤ max_version → HasPlace wanted of
+    ensures { (wanted : Wanted) (s : Shape) (of : Identity) (v : Stamp) (state : State) → IsObjectShape s → IsWellTypedState s state → v.version ≤ max_version → HasPlace wanted of
         → (o : Stored) × (object_of wanted (object_value s of v state) ≡ Ok o) × IsStored s of v state o }
 {}

@@ -44,7 +44,7 @@ module _ (ask : RequestsAsk) (types : List ServedShape) (task : Task) (is : IsTa
   asked_of = of_objects task.settings.kind (collection_in task.settings.namespace) Get
 
   abbrev pub call_with : List ℕ → Call
-  call_with query = record { target = asked_of; query = query; body = None }
+  call_with query = record { target = asked_of; query = query; body = None; agent = None; ticked = 0 }
 
   got : (namespace : Option (List ℕ))
       → place_admitted (record { resource = resource_for namespace; kind = task.settings.kind; namespace = namespace; name = None }) (method_named (codes "GET")) None ≡ Ok (of_objects task.settings.kind (collection_in namespace) Get)
@@ -72,7 +72,7 @@ module _ (ask : RequestsAsk) (types : List ServedShape) (task : Task) (is : IsTa
       let small : length (request (codes "GET") (path_of (wanted_by task) ++ 63 ∷ query) None) ≤ max_head = fits in
       let printed : IsPrinted (codes "GET") (path_of (wanted_by task) ++ 63 ∷ query) None = record { parts = is_request query all; fits = small } in
       subst (Asks types (request (codes "GET") (path_of (wanted_by task) ++ 63 ∷ query) None))
-      (ap (λ r. and_then (decided_by r) (λ target. accepted (record { target = target; query = query; body = None }))) is_admitted)
+      (ap (λ r. and_then (decided_by r) (λ target. accepted (record { target = target; query = query; body = None; agent = None; ticked = 0 }))) is_admitted)
       (ask types (codes "GET") (path_of (wanted_by task)) query (unasked (path_of (wanted_by task)) (path_bytes types task is)) refl printed)
 
   low : task.settings.page ≤ last_revision

@@ -8,7 +8,7 @@ use Rattle.schema.specs.Shape.{Shape}
 use Rattle.history.specs.History.{History, last_revision}
 use Rattle.history.specs.Seen.{seen_changes}
 use Rattle.history.proofs.Wholes.{whole_is}
-use Rattle.api_request.specs.Calls.{Call, Plan}
+use Rattle.api_request.specs.Calls.{Call, Plan, at_tick}
 use Rattle.verbs.specs.Machine as machines
 use Rattle.verbs.specs.Machine.{IsMachine}
 use Rattle.verbs.specs.Step.{planned}
@@ -29,7 +29,7 @@ use Rattle.reflector.specs.Run.{receives_all}
 use Rattle.wireclient.specs.LineLaws.{HasNoFeed, IsLine}
 use Rattle.wireclient.specs.Reads.{Items}
 use Rattle.wireclient.specs.Reply.{head}
-use Rattle.wire_laws.proofs.Listings.{watch_opens}
+use Rattle.wire_laws.proofs.Listings.{watch_opens, watches_at}
 use Rattle.wire_laws.specs.Listings.{watch_after, watch_plan}
 use Rattle.liveness_laws.proofs.Exchange.{asking, first_own, sends, sent}
 use Rattle.liveness_laws.proofs.Hub.{highest_after, insert_count, left_by, left_count, next_is}
@@ -114,8 +114,9 @@ module _ (laws : Laws) (task : Task) (s : edge.State) (requested : List ℕ) (no
   abbrev from : WatchFrom
   from = watch_after task.settings.kind task.settings.namespace (watch_values (with_shape task shape) now.revision) task_watch now.revision
 
-  plan_is : planned s.types s.machine call ≡ watch_plan from
-  plan_is = watch_opens s.types s.machine call (with_shape task shape).t task.settings.kind task.settings.namespace (watch_values (with_shape task shape) now.revision) task_watch now.revision asked_call.2 begun kept
+  plan_is : planned s.types s.machine (at_tick s.last_tick call) ≡ watch_plan from
+  plan_is = watch_opens s.types s.machine (at_tick s.last_tick call) (with_shape task shape).t task.settings.kind task.settings.namespace (watch_values (with_shape task shape) now.revision) task_watch now.revision
+      (watches_at s.last_tick asked_call.2) begun kept
 
   abbrev watch : Watch
   watch = begun_at s.last_tick from
@@ -126,7 +127,7 @@ module _ (laws : Laws) (task : Task) (s : edge.State) (requested : List ℕ) (no
   answers : edge.connection_after s.types s.machine s.last_tick new_connection (watch_request task now.revision) (accepted call) ≡ answered
   answers = ap (λ (p : Plan). with_written new_connection (answer_bytes p.answer p.answer.watch) (edge.answer_phase s.last_tick p.answer.watch)) plan_is
 
-  still : edge.machine_after s.types s.machine (accepted call) ≡ s.machine
+  still : edge.machine_after s.types s.machine s.last_tick (accepted call) ≡ s.machine
   still = ap (λ (p : Plan). machines.after s.machine p.changes) plan_is
 
   abbrev hub_opened : edge.State

@@ -94,7 +94,7 @@ module _ (task : Task) (s : edge.State) (requested : List ℕ) (cache : Option C
       -- ---- its request comes to the server
 
       module _ (b : ℕ) (bs : List ℕ) (decided : CallDecision) (asks : Asks s.types bytes decided)
-          (answers : edge.connection_after s.types s.machine s.last_tick new_connection bytes decided ≡ with_written new_connection (b ∷ bs) ended) (still : edge.machine_after s.types s.machine decided ≡ s.machine) where
+          (answers : edge.connection_after s.types s.machine s.last_tick new_connection bytes decided ≡ with_written new_connection (b ∷ bs) ended) (still : edge.machine_after s.types s.machine s.last_tick decided ≡ s.machine) where
         abbrev replied : Connection
         replied = with_written new_connection (b ∷ bs) ended
 

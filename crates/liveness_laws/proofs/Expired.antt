@@ -3,7 +3,7 @@ use Rattle.std.proofs.Common.{◌≡◌, ◌∙◌, inl, inr, ℕ, suc, ◌+◌,
 use Rattle.std.specs.FinMap as fin
 use Rattle.history.specs.History.{History, last_revision}
 use Rattle.lists.specs.declared.refusal.Refusal.TheVariants.{Expired}
-use Rattle.api_request.specs.Calls.{Answer, Call, Plan}
+use Rattle.api_request.specs.Calls.{Answer, Call, Plan, at_tick}
 use Rattle.verbs.specs.Machine as machines
 use Rattle.verbs.specs.Step.{list_refusal, planned, refused}
 use Rattle.requests.specs.Asks.{Asks}
@@ -17,7 +17,7 @@ use Rattle.wireclient.specs.Reply.{ReplyItem}
 use Rattle.wireclient.proofs.ReadBack.{length_reads, reply_read as reply_read_back}
 use Rattle.wireclient.proofs.TooLong.{no_length, unframed_read}
 use Rattle.wire_laws.proofs.AnyLengths.{IsSentOf, any_reply_read}
-use Rattle.wire_laws.proofs.Listings.{watch_expired}
+use Rattle.wire_laws.proofs.Listings.{watch_expired, watches_at}
 use Rattle.wire_laws.proofs.Written.{status_is}
 use Rattle.liveness_laws.proofs.Exchange.{asking}
 use Rattle.liveness_laws.proofs.Reaching.{IsAfterRun, after_run, ready}
@@ -54,13 +54,14 @@ begun task reports m cache now right kept is =
 module _ (task : Task) (s : edge.State) (now : Cache) (some : 1 ≤ now.revision) (past : now.revision < s.machine.compacted) (call : Call) (asks : Asks s.types (watch_request task now.revision) (accepted call))
     (task_now : Task) (such : IsWatchCall s.types task_now now.revision call) where
   abbrev answer : Answer
-  answer = (planned s.types s.machine call).answer
+  answer = (planned s.types s.machine (at_tick s.last_tick call)).answer
 
-  plan_is : planned s.types s.machine call ≡ refused (list_refusal (Expired now.revision s.machine.compacted))
-  plan_is = watch_expired s.types s.machine call task_now.t task_now.settings.kind task_now.settings.namespace (watch_values task_now now.revision) task_watch now.revision such some past
+  plan_is : planned s.types s.machine (at_tick s.last_tick call) ≡ refused (list_refusal (Expired now.revision s.machine.compacted))
+  plan_is = watch_expired s.types s.machine (at_tick s.last_tick call) task_now.t task_now.settings.kind task_now.settings.namespace (watch_values task_now now.revision) task_watch now.revision
+      (watches_at s.last_tick such) some past
 
   read : (xs : List ReplyItem) × Items (answer_reply answer) xs × IsSentOf answer.status answer.body xs
-  read = any_reply_read (record { reply = reply_read_back; counted = length_reads; none = unframed_read; uncounted = no_length }) answer.status None answer.body (status_is s.types s.machine call) (tt {0})
+  read = any_reply_read (record { reply = reply_read_back; counted = length_reads; none = unframed_read; uncounted = no_length }) answer.status None answer.body (status_is s.types s.machine (at_tick s.last_tick call)) (tt {0})
 
   other : (answer.status == 200) ≡ false
   other = ap (λ (p : Plan). p.answer.status == 200) plan_is

@@ -7,7 +7,7 @@ use Rattle.history.specs.History.{History}
 use Rattle.verbs.specs.Machine.{IsMachine}
 use Rattle.verbs.specs.Step.{planned}
 use Rattle.answers.specs.WatchFrom.{WatchFrom}
-use Rattle.api_request.specs.Calls.{Call}
+use Rattle.api_request.specs.Calls.{Call, at_tick}
 use Rattle.requests.proofs.Deciding.{asks_more, asks_one}
 use Rattle.requests.specs.Asks.{Asks, CallDecision}
 use Rattle.requests.specs.Decision.{accepted, refused, undecided}
@@ -27,6 +27,7 @@ use Rattle.reflector.specs.InformerViews.{due}
 use Rattle.reflector.specs.Requests.{query_at, request_of}
 use Rattle.reflector.specs.Run.{asked, closed, restarted}
 use Rattle.wire_laws.proofs.BegunAnswers.{opens_so}
+use Rattle.wire_laws.proofs.Listings.{lists_at}
 use Rattle.world_laws.proofs.Asking.{asks_first, asks_next}
 use Rattle.world_laws.proofs.Edges.{CameOn, StaysOrTurns, came, goes_new, stays_or_turns}
 use Rattle.world_laws.proofs.Mirror.{server_of}
@@ -191,33 +192,33 @@ to_clients wanted w v n (Some own) has comes h = hands wanted w v own (take n (d
 
 -- the request that comes
 
-module _ (types : List ServedShape) (task : Task) (h : History) (m : ℕ) (is : IsStillTask types task) (is_machine : IsMachine types h) (low : m ≤ h.current) (whole : List ℕ) (call : Call) (asks : Asks types whole (accepted call)) where
+module _ (types : List ServedShape) (task : Task) (h : History) (m last_tick : ℕ) (is : IsStillTask types task) (is_machine : IsMachine types h) (low : m ≤ h.current) (whole : List ℕ) (call : Call) (asks : Asks types whole (accepted call)) where
   abbrev task_now : Task
   task_now = with_shape task is.0
 
   -- what it asks is what it was to ask
-  by_call : (IsSuch : Call → Type 0) → AsksFor types whole IsSuch → ((call : Call) → IsSuch call → (planned types h call).answer.watch ≡ None) → (planned types h call).answer.watch ≡ None
+  by_call : (IsSuch : Call → Type 0) → AsksFor types whole IsSuch → ((call : Call) → IsSuch call → (planned types h (at_tick last_tick call)).answer.watch ≡ None) → (planned types h (at_tick last_tick call)).answer.watch ≡ None
   by_call IsSuch (inl too_long) unwatched = absurd (other (asks_one types whole (accepted call) (refuse head_too_large) asks too_long))
     where
       other : accepted call ≡ refuse head_too_large → ⊥
       other e = cc
   by_call IsSuch (inr (listed, so, such)) unwatched =
       let one : listed ≡ call = one_call (asks_one types whole (accepted listed) (accepted call) so asks) in
-      subst (λ (x : Call). (planned types h x).answer.watch ≡ None) one (unwatched listed such)
+      subst (λ (x : Call). (planned types h (at_tick last_tick x)).answer.watch ≡ None) one (unwatched listed such)
     where
       one_call : accepted listed ≡ accepted call → listed ≡ call
       one_call e = cc
 
   -- a list opens no watch
   lists_unwatched : (sync : SyncPhase) (cache : Option Cache) → IsSyncSound (server_of task h) m sync cache → (revision : Option ℕ) → whole ≡ request_with task (query_at (client_settings task) sync revision)
-      → (sync ≡ streaming) ⊎ ((planned types h call).answer.watch ≡ None)
+      → (sync ≡ streaming) ⊎ ((planned types h (at_tick last_tick call)).answer.watch ≡ None)
   lists_unwatched first cache sound revision is_whole =
       inr (by_call (IsListCall types task_now None) (subst (λ (l : List ℕ). AsksFor types l (IsListCall types task_now None)) (sym is_whole) (asks_first types task_now is.1))
-      (λ call such. (first_page_comes types task_now h m call is.1 is_machine low such).unwatched))
+      (λ call such. (first_page_comes types task_now h m (at_tick last_tick call) is.1 is_machine low (lists_at last_tick such)).unwatched))
   lists_unwatched (next r token paged) cache sound revision is_whole =
       inr (by_call (IsNextCall types task_now r paged)
       (subst (λ (l : List ℕ). AsksFor types l (IsNextCall types task_now r paged)) (sym is_whole) (asks_next types task_now h r token paged is.1 is_machine sound.1 sound.2))
-      (λ call such. (next_page_comes types task_now h m r token paged call is.1 is_machine sound.0 sound.1 sound.2 such).unwatched))
+      (λ call such. (next_page_comes types task_now h m r token paged (at_tick last_tick call) is.1 is_machine sound.0 sound.1 sound.2 (such.0, such.1, lists_at last_tick such.2)).unwatched))
   lists_unwatched streaming cache sound revision is_whole = inl refl
 
 module _ (task : Task) where
@@ -227,16 +228,16 @@ module _ (task : Task) where
       → IsHeld c.sync (edge.connection_after s.types s.machine s.last_tick conn (prefix ++ piece) asked).phase
   decided m s c own conn n piece prefix undecided cut_so still_is is_machine waits asks is = tt
   decided m s c own conn n piece prefix (refused d) cut_so still_is is_machine waits asks is = tt
-  decided m s c own conn n piece prefix (accepted call) cut_so still_is is_machine waits asks is = by_watch (planned s.types s.machine call).answer.watch unwatched
+  decided m s c own conn n piece prefix (accepted call) cut_so still_is is_machine waits asks is = by_watch (planned s.types s.machine (at_tick s.last_tick call)).answer.watch unwatched
     where
       whole_is : (prefix ++ piece) ++ drop n own.unsent ≡ request_of (client_settings task) c
       whole_is =
           append_assoc prefix piece (drop n own.unsent) ∙ ap (λ (l : List ℕ). prefix ++ l) (ap (λ (l : List ℕ). l ++ drop n own.unsent) (sym cut_so) ∙ take-append-drop n own.unsent)
           ∙ (subst (ReadInvariant task s.machine c own.unsent is.to (is.sent ++ is.coming) conn.written) waits is.represents).1
 
-      unwatched : (c.sync ≡ streaming) ⊎ ((planned s.types s.machine call).answer.watch ≡ None)
+      unwatched : (c.sync ≡ streaming) ⊎ ((planned s.types s.machine (at_tick s.last_tick call)).answer.watch ≡ None)
       unwatched =
-          lists_unwatched s.types task s.machine m still_is is_machine is.follows.low ((prefix ++ piece) ++ drop n own.unsent) call
+          lists_unwatched s.types task s.machine m s.last_tick still_is is_machine is.follows.low ((prefix ++ piece) ++ drop n own.unsent) call
           (asks_more s.types (prefix ++ piece) (drop n own.unsent) (accepted call) asks (λ e. absurd cc)) c.sync c.cache is.follows.sync (option_map (λ now. now.revision) c.cache) whole_is
 
       by_watch : (o : Option WatchFrom) → (c.sync ≡ streaming) ⊎ (o ≡ None) → IsHeld c.sync (edge.answer_phase s.last_tick o)

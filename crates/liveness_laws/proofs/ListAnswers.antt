@@ -7,7 +7,7 @@ use Rattle.lists.specs.Body.{Collection, list_text}
 use Rattle.lists.specs.Lists.{page_of}
 use Rattle.lists.specs.Revision.{exactly, revision_by, revision_of}
 use Rattle.lists.specs.declared.refusal.Refusal.TheVariants.{TooLarge}
-use Rattle.api_request.specs.Calls.{Answer, Call, Plan}
+use Rattle.api_request.specs.Calls.{Answer, Call, Plan, at_tick}
 use Rattle.api_request.specs.Reasons.{code_of}
 use Rattle.verbs.specs.Machine as machines
 use Rattle.verbs.specs.Machine.{IsMachine}
@@ -26,7 +26,7 @@ use Rattle.wireclient.specs.Reply.{ReplyItem, head}
 use Rattle.wireclient.proofs.ReadBack.{length_reads, reply_read as reply_read_back}
 use Rattle.wireclient.proofs.TooLong.{no_length, unframed_read}
 use Rattle.wire_laws.proofs.AnyLengths.{any_reply_read}
-use Rattle.wire_laws.proofs.Listings.{page_planned}
+use Rattle.wire_laws.proofs.Listings.{lists_at, page_planned}
 use Rattle.wire_laws.proofs.Written.{status_is}
 use Rattle.wire_laws.specs.Listings.{page_plan}
 use Rattle.liveness_laws.specs.Leading.{IsListPhase}
@@ -44,7 +44,7 @@ pub record IsRepliedTo (s : edge.State) (c : Connection) (bytes : List ℕ) : Ty
   pub b : ℕ
   pub bs : List ℕ
   pub answers : edge.connection_after s.types s.machine s.last_tick c bytes decided ≡ with_written c (b ∷ bs) ended
-  pub still : edge.machine_after s.types s.machine decided ≡ s.machine
+  pub still : edge.machine_after s.types s.machine s.last_tick decided ≡ s.machine
   pub items : List ReplyItem
   pub reads : Items (b ∷ bs) items
 
@@ -71,7 +71,7 @@ module _ (laws : Laws) (task : Task) (s : edge.State) (still_is : IsStillTask s.
   module _ (call : Call) (asks : Asks s.types bytes (accepted call)) (token : Option Token) (lists : IsListCall s.types task_now token call)
       (at : revision_of current s.machine.compacted (page_values task_now token) ≡ Ok current) where
     abbrev answer : Answer
-    answer = (planned s.types s.machine call).answer
+    answer = (planned s.types s.machine (at_tick s.last_tick call)).answer
 
     abbrev of : Collection
     of = collection_of task_now.t task_now.settings.kind task_now.settings.namespace
@@ -79,12 +79,12 @@ module _ (laws : Laws) (task : Task) (s : edge.State) (still_is : IsStillTask s.
     abbrev text : List ℕ
     text = list_text of current (page_of of (page_values task_now token) (state_at s.machine.changes current))
 
-    plan_is : planned s.types s.machine call ≡ page_plan text
-    plan_is = page_planned s.types s.machine call task_now.t task_now.settings.kind task_now.settings.namespace (page_values task_now token) lists current at
+    plan_is : planned s.types s.machine (at_tick s.last_tick call) ≡ page_plan text
+    plan_is = page_planned s.types s.machine (at_tick s.last_tick call) task_now.t task_now.settings.kind task_now.settings.namespace (page_values task_now token) (lists_at s.last_tick lists) current at
 
     listed : IsRepliedTo s c bytes
     listed =
-        let read = any_reply_read (record { reply = reply_read_back; counted = length_reads; none = unframed_read; uncounted = no_length }) answer.status None answer.body (status_is s.types s.machine call) (tt {0}) in
+        let read = any_reply_read (record { reply = reply_read_back; counted = length_reads; none = unframed_read; uncounted = no_length }) answer.status None answer.body (status_is s.types s.machine (at_tick s.last_tick call)) (tt {0}) in
         record {
           decided = accepted call;
           asks = asks;

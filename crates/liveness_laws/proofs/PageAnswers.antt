@@ -16,7 +16,7 @@ use Rattle.lists.specs.TokenLaws.{CanBeListed, token_after}
 use Rattle.lists.specs.declared.refusal.Refusal.TheVariants.{TooLarge}
 use Rattle.decoder.specs.declared.malformed.Malformed.TheVariants.{Json}
 use Rattle.line_laws.specs.Listed.{IsReadAsPage, page_with}
-use Rattle.api_request.specs.Calls.{Call, Plan}
+use Rattle.api_request.specs.Calls.{Call, Plan, at_tick}
 use Rattle.verbs.specs.Machine.{IsMachine, IsNamed, after}
 use Rattle.verbs.specs.Step.{planned}
 use Rattle.requests.specs.Asks.{Asks}
@@ -26,6 +26,7 @@ use Rattle.httpedge.specs.Connections.{new_connection}
 use Rattle.httpedge.specs.Steps as edge
 use Rattle.wire.specs.Heads.{max_head}
 use Rattle.wireclient.specs.Reads.{Items, max_body}
+use Rattle.wire_laws.proofs.Listings.{lists_at}
 use Rattle.wire_laws.specs.Listings.{page_plan}
 use Rattle.liveness_laws.proofs.Asked.{asks_first, asks_next, page_is_low}
 use Rattle.liveness_laws.proofs.Rounds.{Entries, IsBefore, PageComes}
@@ -65,24 +66,25 @@ module _ (laws : PagesAreAnswered) (task : Task) (h : edge.State) (shape : Shape
   module _ (behind : Option Key) (token : Option Token) (call : Call) (asks : Asks h.types (list_request task (option_map (continued_at current) behind)) (accepted call))
       (lists : IsListCall h.types (with_shape task shape) token call) (same : option_map (key_after task.settings.kind) token ≡ behind)
       (revision : revision_of current h.machine.compacted (page_values (with_shape task shape) token) ≡ Ok current)
-      (by_text : IsReadAsPageIfUtf8 (wanted_by task) (planned h.types h.machine call).answer.body current (seen_page (selection task) behind (page_limit size) (state_at h.machine.changes current))) where
+      (by_text : IsReadAsPageIfUtf8 (wanted_by task) (planned h.types h.machine (at_tick h.last_tick call)).answer.body current (seen_page (selection task) behind (page_limit size) (state_at h.machine.changes current))) where
     abbrev text : List ℕ
     text = list_text (collection task) current (page_now task h.machine behind)
 
     -- it is UTF-8, as the machine's texts are
-    read : IsReadAsPage (wanted_by task) (planned h.types h.machine call).answer.body current (seen_page (selection task) behind (page_limit size) (state_at h.machine.changes current))
+    read : IsReadAsPage (wanted_by task) (planned h.types h.machine (at_tick h.last_tick call)).answer.body current (seen_page (selection task) behind (page_limit size) (state_at h.machine.changes current))
     read =
-        let body : List ℕ = (planned h.types h.machine call).answer.body in
+        let body : List ℕ = (planned h.types h.machine (at_tick h.last_tick call)).answer.body in
         let page = seen_page (selection task) behind (page_limit size) (state_at h.machine.changes current) in
-        let utf8 : IsUtf8 body = laws.texts h.types (with_shape task shape) h.machine token current call is machine_is lists revision listable.unicode in (
+        let utf8 : IsUtf8 body = laws.texts h.types (with_shape task shape) h.machine token current (at_tick h.last_tick call) is machine_is (lists_at h.last_tick lists) revision listable.unicode in (
           by_text.0,
           by_text.1 ∙ ap (λ (b : Bool). cond b (Ok (page_with current page.next by_text.0)) (Err Json)) (is_utf8-from_IsUtf8 body utf8),
           by_text.2,
         )
 
-    plan_is : planned h.types h.machine call ≡ page_plan text
+    plan_is : planned h.types h.machine (at_tick h.last_tick call) ≡ page_plan text
     plan_is =
-        laws.planned_so h.types h.machine call (with_shape task shape).t task.settings.kind task.settings.namespace (page_values (with_shape task shape) token) current lists revision
+        laws.planned_so h.types h.machine (at_tick h.last_tick call) (with_shape task shape).t task.settings.kind task.settings.namespace (page_values (with_shape task shape) token) current
+        (lists_at h.last_tick lists) revision
         ∙ ap (λ (o : Option Key). page_plan (list_text (collection task) current (page_now task h.machine o))) same
 
     comes_by : PageComes task h behind
@@ -107,7 +109,7 @@ module _ (laws : PagesAreAnswered) (task : Task) (h : edge.State) (shape : Shape
   first_comes =
       let asked = asks_first laws.asks h.types (with_shape task shape) is listable.first_head in
       comes_by None None asked.0 asked.1 asked.2 refl (ap (λ (b : Bool). cond b (Ok current) (Err (TooLarge 0 current))) (le-leb 0 current zero-le))
-      (laws.first h.types (with_shape task shape) h.machine asked.0 is machine_is asked.2)
+      (laws.first h.types (with_shape task shape) h.machine (at_tick h.last_tick asked.0) is machine_is (lists_at h.last_tick asked.2))
 
   module _ (k : Key) (before : Entries) (is_before : IsBefore task h (Some k) before) where
     -- what holds of all entries holds of the last of these
@@ -133,7 +135,7 @@ module _ (laws : PagesAreAnswered) (task : Task) (h : edge.State) (shape : Shape
         let low : h.machine.compacted ≤ current = machine_is.whole.low in
         let exact : revision_by current h.machine.compacted (exactly current) ≡ Ok current = rw (le-ltb current h.machine.compacted low, le-leb current current (le_refl current)) refl in
         comes_by (Some k) (Some (token_after current k)) asked.0 asked.1 asked.2 (ap Some (same_key task.settings.kind current k own_kind)) exact
-        (laws.next h.types (with_shape task shape) h.machine current k asked.0 is machine_is asked.2 own_kind low (le_refl current))
+        (laws.next h.types (with_shape task shape) h.machine current k (at_tick h.last_tick asked.0) is machine_is (lists_at h.last_tick asked.2) own_kind low (le_refl current))
 
   pub page_comes : (behind : Option Key) (before : Entries) → IsBefore task h behind before → PageComes task h behind
   page_comes None before is_before = first_comes

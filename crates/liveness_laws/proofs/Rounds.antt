@@ -109,7 +109,7 @@ module _ (task : Task) (h : edge.State) where
     pub text : List ℕ
     pub asks : Asks h.types (list_request task (option_map (continued_at current) after)) decided
     pub answers : edge.connection_after h.types h.machine h.last_tick new_connection (list_request task (option_map (continued_at current) after)) decided ≡ with_written new_connection (b ∷ bs) ended
-    pub still : edge.machine_after h.types h.machine decided ≡ h.machine
+    pub still : edge.machine_after h.types h.machine h.last_tick decided ≡ h.machine
     pub reads : Items (b ∷ bs) (head 200 ∷ whole text ∷ end ∷ [])
     pub page : IsReadAsPage wanted text current (limited (Some size) (left_after after entries))
 

@@ -3,12 +3,12 @@ use Rattle.std.proofs.Common.{◌≡◌, ◌⊎◌, ◌∙◌, inl, inr, ℕ, su
 use Rattle.std.specs.FinMap as fin
 use Rattle.std.specs.Prelude.{nat_lt, option_map}
 use Rattle.history.specs.History.{History, last_revision}
-use Rattle.api_request.specs.Calls.{Call, Plan}
+use Rattle.api_request.specs.Calls.{Call, Plan, at_tick}
 use Rattle.verbs.specs.Machine as machines
 use Rattle.requests.specs.Asks.{Asks, CallDecision}
 use Rattle.requests.specs.Decision.{accepted, undecided}
 use Rattle.requests.specs.Refusals.{head_too_large, refuse}
-use Rattle.wire_laws.proofs.Listings.{watch_expired, watch_opens}
+use Rattle.wire_laws.proofs.Listings.{watch_expired, watch_opens, watches_at}
 use Rattle.watchline.specs.Watches.{is_bookmark_due}
 use Rattle.httpedge.proofs.Connected.{got_each, put_there}
 use Rattle.httpedge.proofs.Outcomes.{ComesBy, ComesOn}
@@ -233,19 +233,22 @@ module _ (laws : Laws) (task : Task) where
     record Decides (bytes : List ℕ) : Type 0 where
       decided : CallDecision
       asked_so : Asks w.hub.types bytes decided
-      unchanged : edge.machine_after w.hub.types machine decided ≡ machine
+      unchanged : edge.machine_after w.hub.types machine w.hub.last_tick decided ≡ machine
 
     abbrev task_now : Task
     task_now = with_shape task is.stands.holds.task_is.0
 
-    asks_still : (call : Call) (r : ℕ) → 1 ≤ r → IsWatchCall w.hub.types task_now r call → edge.machine_after w.hub.types machine (accepted call) ≡ machine
+    asks_still : (call : Call) (r : ℕ) → 1 ≤ r → IsWatchCall w.hub.types task_now r call → edge.machine_after w.hub.types machine w.hub.last_tick (accepted call) ≡ machine
     asks_still call r some such = by_test (nat_lt r machine.compacted) refl
       where
-        by_test : (b : Bool) → nat_lt r machine.compacted ≡ b → edge.machine_after w.hub.types machine (accepted call) ≡ machine
+        still : IsWatchCall w.hub.types task_now r (at_tick w.hub.last_tick call)
+        still = watches_at w.hub.last_tick such
+
+        by_test : (b : Bool) → nat_lt r machine.compacted ≡ b → edge.machine_after w.hub.types machine w.hub.last_tick (accepted call) ≡ machine
         by_test true past =
-            ap (λ (p : Plan). machines.after machine p.changes) (watch_expired w.hub.types machine call task_now.t task_now.settings.kind task_now.settings.namespace (watch_values task_now r) task_watch r such some (ltb-true r machine.compacted past))
+            ap (λ (p : Plan). machines.after machine p.changes) (watch_expired w.hub.types machine (at_tick w.hub.last_tick call) task_now.t task_now.settings.kind task_now.settings.namespace (watch_values task_now r) task_watch r still some (ltb-true r machine.compacted past))
         by_test false low =
-            ap (λ (p : Plan). machines.after machine p.changes) (watch_opens w.hub.types machine call task_now.t task_now.settings.kind task_now.settings.namespace (watch_values task_now r) task_watch r such some (ltb-false r machine.compacted low))
+            ap (λ (p : Plan). machines.after machine p.changes) (watch_opens w.hub.types machine (at_tick w.hub.last_tick call) task_now.t task_now.settings.kind task_now.settings.namespace (watch_values task_now r) task_watch r still some (ltb-false r machine.compacted low))
 
     decides : (bytes : List ℕ) → bytes ≡ request_of (client_settings task) w.client → Decides bytes
     decides bytes is_request =

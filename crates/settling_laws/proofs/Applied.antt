@@ -14,7 +14,7 @@ use Rattle.ownership.specs.Sameness.{same_state}
 use Rattle.ownership.proofs.Sameness.{same_state-is, same_state-itself}
 use Rattle.ownership.proofs.WellTyped.{applied_well_typed}
 use Rattle.api_request.specs.declared.reason.Reason.TheVariants.{ServiceUnavailable}
-use Rattle.api_request.specs.Calls.{Call, Plan}
+use Rattle.api_request.specs.Calls.{Call, Plan, at_tick}
 use Rattle.api_request.specs.Validated.{Validated}
 use Rattle.api_validation.specs.Size.{size_validated}
 use Rattle.verbs.specs.Machine.{AreNext, IsMachine, IsNamed, IsNext, after, decoded_state, state_by, state_of_existing}
@@ -42,7 +42,7 @@ other_key j k apart = go (is_same_key j k) refl
     go true same = absurd (apart (tied j k same))
     go false same = refl
 
-module _ (types : List ServedShape) (m : History) (kind : ℕ) (s : Summed) (place : Place) (machine : IsMachine types m) (serves : slice_get types kind ≡ Some summary_type)
+module _ (types : List ServedShape) (m : History) (ms kind : ℕ) (s : Summed) (place : Place) (machine : IsMachine types m) (serves : slice_get types kind ≡ Some summary_type)
     (named : IsNamed (key_of kind place)) (is : IsSayable s) where
   abbrev k : Key
   k = key_of kind place
@@ -51,7 +51,7 @@ module _ (types : List ServedShape) (m : History) (kind : ℕ) (s : Summed) (pla
   objects = current_objects m
 
   abbrev call : Call
-  call = apply_call kind s place
+  call = at_tick ms (apply_call kind s place)
 
   abbrev found : Option Object
   found = fin.get objects k
@@ -74,7 +74,7 @@ module _ (types : List ServedShape) (m : History) (kind : ℕ) (s : Summed) (pla
 
   planned_so : (o : Option Object) → found ≡ o → planned types m call ≡ plan_for (plan_put_unless_same summary_type m.current k o new)
   planned_so o at =
-      apply_planned s kind place types m serves named is
+      apply_planned s kind place types m ms serves named is
       ∙ ap (λ (x : Option Object). plan_for (plan_put_unless_same summary_type m.current k x (with_counts s (state_of_existing summary_type x)))) at
       ∙ ap (λ (x : State). plan_for (plan_put_unless_same summary_type m.current k o (with_counts s x))) (sym (under o) ∙ ap (state_by (slice_get types kind)) (sym at))
 
@@ -186,7 +186,7 @@ module _ (types : List ServedShape) (m : History) (kind : ℕ) (s : Summed) (pla
   stays = stays_by found refl
 
 pub reconciles_apply : ReconcilesApply
-reconciles_apply types m kind s place machine serves named is room = has_counts types m kind s place machine serves named is room
+reconciles_apply types m ms kind s place machine serves named is room = has_counts types m ms kind s place machine serves named is room
 
 pub applies_stay : AppliesStay
-applies_stay types m kind s place machine serves named is there same = stays types m kind s place machine serves named is there same
+applies_stay types m ms kind s place machine serves named is there same = stays types m ms kind s place machine serves named is there same

@@ -1,5 +1,5 @@
 -- The bytes of an apply of counts ask the call.
-use Rattle.std.proofs.Common.{◌≡◌, ◌≢◌, ℕ, ◌+◌, ◌<◌, ◌≤◌, ◌==◌, ◌^◌, Bool, true, false, cond, not, All, List, [], ◌∷◌, ◌++◌, length, Option, Some, Ok, IsTrue, IsUtf8, codes, decimal, refl, sym, ap, subst, ◌∙◌, arith, append_assoc, leb-true, length-append, lt-ltb, ltb-true, ne_eqb}
+use Rattle.std.proofs.Common.{◌≡◌, ◌≢◌, ℕ, ◌+◌, ◌<◌, ◌≤◌, ◌==◌, ◌^◌, Bool, true, false, cond, not, All, List, [], ◌∷◌, ◌++◌, length, Option, Some, None, Ok, IsTrue, IsUtf8, codes, decimal, refl, sym, ap, subst, ◌∙◌, arith, append_assoc, leb-true, length-append, lt-ltb, ltb-true, ne_eqb}
 use Rattle.std.proofs.lemmas.Bool.{and_from, and_parts}
 use Rattle.std.proofs.lemmas.Bool.Decides.{nat_tests}
 use Rattle.std.proofs.lemmas.Fmt.{length-decimal-le}
@@ -282,8 +282,8 @@ module _ (ask : RequestsAsk) (types : List ServedShape) (kind : ℕ) (s : Summed
 
     asked_is : asked_with types (codes "PATCH") path query media bytes ≡ accepted (apply_call kind s place)
     asked_is =
-        ap (λ r. and_then (decided_by r) (λ (t : Target). and_then (some_json (json_in bytes)) (λ b. accepted (record { target = t; query = query; body = b })))) is_admitted
-        ∙ ap (λ (o : Option Data). and_then (some_json o) (λ b. accepted (record { target = target; query = query; body = b }))) (body_is_read s of_namespace of_name is (names_text of_namespace namespace_bytes) (names_text of_name name_bytes))
+        ap (λ r. and_then (decided_by r) (λ (t : Target). and_then (some_json (json_in bytes)) (λ b. accepted (record { target = t; query = query; body = b; agent = None; ticked = 0 })))) is_admitted
+        ∙ ap (λ (o : Option Data). and_then (some_json o) (λ b. accepted (record { target = target; query = query; body = b; agent = None; ticked = 0 }))) (body_is_read s of_namespace of_name is (names_text of_namespace namespace_bytes) (names_text of_name name_bytes))
 
     pub asks : Asks types (apply_request s of_namespace of_name) (accepted (apply_call kind s place))
     asks =

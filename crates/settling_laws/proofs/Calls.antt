@@ -26,10 +26,11 @@ use Rattle.objects.specs.State.{State}
 use Rattle.ownership.specs.Apply.{Conflict, applied, conflicts, is_refused}
 use Rattle.ownership.specs.Sides.{own_part}
 use Rattle.api_request.specs.declared.reason.Reason.{Reason}
-use Rattle.api_request.specs.declared.reason.Reason.TheVariants.{BadRequest, Invalid}
+use Rattle.api_request.specs.declared.reason.Reason.TheVariants.{BadRequest}
 use Rattle.api_request.specs.declared.verb.Verb.TheVariants.{Apply}
-use Rattle.api_request.specs.Calls.{of_object}
-use Rattle.api_request.specs.Validated.{Validated, and_then, require}
+use Rattle.api_request.specs.Calls.{at_tick, of_object}
+use Rattle.api_request.specs.Validated.{Validated, and_then, require, require_at}
+use Rattle.api_request.proofs.Checks.{plain_stays}
 use Rattle.api_validation.specs.Envelope.{Envelope, Expected, api_version_of, envelope_of, given_validated, must_be, wanted_validated}
 use Rattle.api_validation.specs.Naming.{names_validated, path_validated}
 use Rattle.api_validation.specs.Parameters.{parameters_for, parameters_validated, read_or_refused}
@@ -91,6 +92,9 @@ then_ok j x f is = ap (λ (r : Validated _). and_then r f) is
 pub require_ok : (b : Bool) (r : Reason) (message : List ℕ) → b ≡ true → require b r message ≡ Ok tt
 require_ok b r message is = ap (λ (t : Bool). require t r message) is
 
+require_at_ok : (b : Bool) (path what : List ℕ) → b ≡ true → require_at b path what ≡ Ok tt
+require_at_ok b path what is = ap (λ (t : Bool). require_at t path what) is
+
 -- the name that is given is the one of the path
 given_own : (k wanted : List ℕ) → wanted_validated k (Some wanted) (unless_empty wanted) ≡ Ok tt
 given_own k [] = refl
@@ -131,8 +135,8 @@ module _ (s : Summed) (kind : ℕ) (place : Place) where
   named : IsNamed k → names_validated Main place.0 place.1 rest ≡ Ok tt
   named is =
       then_ok (path_validated place.0 place.1) tt _
-      (then_ok (require (is_dns_subdomain place.1) Invalid (codes "metadata.name: bad name")) tt _ (require_ok (is_dns_subdomain place.1) Invalid (codes "metadata.name: bad name") is.name)
-      ∙ require_ok (is_dns_label place.0) Invalid (codes "metadata.namespace: bad namespace") is.namespace)
+      (then_ok (require_at (is_dns_subdomain place.1) (codes "metadata.name") (codes "bad name")) tt _ (require_at_ok (is_dns_subdomain place.1) (codes "metadata.name") (codes "bad name") is.name)
+      ∙ require_at_ok (is_dns_label place.0) (codes "metadata.namespace") (codes "bad namespace") is.namespace)
 
   -- force refuses nothing
   forced : (cs : List Conflict) → is_refused cs true ≡ false
@@ -156,9 +160,9 @@ module _ (s : Summed) (kind : ℕ) (place : Place) where
   plans current found is_named is =
       then_ok (intent_of of asked.Apply query body) intent _ (intended is) ∙ then_ok (names_validated Main place.0 place.1 rest) tt _ (named is_named) ∙ over current found is
 
-  pub apply_planned : (types : List ServedShape) (m : History) → slice_get types kind ≡ Some summary_type → IsNamed k → IsSayable s
-      → planned types m (apply_call kind s place) ≡ plan_for (plan_put_unless_same summary_type m.current k (fin.get (current_objects m) k) (new (fin.get (current_objects m) k)))
-  apply_planned types m serves is_named is =
-      ap (λ (t : Option ServedShape). run_by (is_dry_run t (apply_call kind s place)) (current_objects m) (plan_for (dispatch_type t kind (of_object place.0 place.1 Main) Apply (from_history m) (apply_call kind s place))))
+  pub apply_planned : (types : List ServedShape) (m : History) (ms : ℕ) → slice_get types kind ≡ Some summary_type → IsNamed k → IsSayable s
+      → planned types m (at_tick ms (apply_call kind s place)) ≡ plan_for (plan_put_unless_same summary_type m.current k (fin.get (current_objects m) k) (new (fin.get (current_objects m) k)))
+  apply_planned types m ms serves is_named is =
+      ap (λ (t : Option ServedShape). run_by (is_dry_run t (at_tick ms (apply_call kind s place))) (current_objects m) (plan_for (dispatch_type t kind (of_object place.0 place.1 Main) Apply (from_history m) (at_tick ms (apply_call kind s place)))))
       serves
-      ∙ ap plan_for (plans m.current (fin.get (current_objects m) k) is_named is)
+      ∙ ap plan_for (plain_stays summary_type (Some place.1) _ refl ∙ plans m.current (fin.get (current_objects m) k) is_named is)

@@ -112,7 +112,7 @@ settles ask apply lasts headline types task before w earlier now kind shapes is 
       end = end task w now bytes call can.room asks;
       steps = leads task w now bytes call can.room asks kept refl;
       objects = objects;
-      counted = apply w.hub.types w.hub.machine kind s task.settings.summary machine can.serves.served can.named sayable can.stored;
+      counted = apply w.hub.types w.hub.machine w.hub.last_tick kind s task.settings.summary machine can.serves.served can.named sayable can.stored;
       applied = refl;
       types = refl;
       clock = refl;

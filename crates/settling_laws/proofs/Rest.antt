@@ -107,6 +107,6 @@ rest_stays ask stays lasts types task before w earlier now kind shapes run rest 
       end = end task w now bytes call can.room asks;
       steps = leads task w now bytes call can.room asks rest.kept refl;
       machine =
-          stays w.hub.types w.hub.machine kind s task.settings.summary (machine_after_run lasts types task before w earlier shapes run) can.serves.served can.named can.sayable rest.stands rest.said;
+          stays w.hub.types w.hub.machine w.hub.last_tick kind s task.settings.summary (machine_after_run lasts types task before w earlier shapes run) can.serves.served can.named can.sayable rest.stands rest.said;
       others = others_stay task w now bytes call can.room asks;
     }

@@ -3,6 +3,7 @@ use Rattle.std.proofs.Common.{◌≡◌, ◌≢◌, ◌∙◌, ℕ, suc, ◌+◌
 use Rattle.std.specs.FinMap as fin
 use Rattle.api_types.specs.TypesFile.{ServedShape}
 use Rattle.history.specs.History.{History, Objects as Standing}
+use Rattle.api_request.specs.Calls.{at_tick}
 use Rattle.verbs.specs.Machine.{AreObjectTypes, AreUnicode}
 use Rattle.verbs.specs.Step.{step}
 use Rattle.httpedge.specs.Connections.{max_open, open_count}
@@ -124,7 +125,9 @@ module _ (catches : CatchesUp) (settles : Settles) (rests : SettledRests) (stays
   listable : IsListable task second.hub.machine
   listable =
       subst (IsListable task)
-      (sym (settled.applied ∙ ap₂ (λ (ts : List ServedShape) (m : History). (step ts m (apply_call kind s task.settings.summary)).1) caught.server.1 caught.server.0)) say.listable
+      (sym (settled.applied
+      ∙ ap₂ (λ (ts : List ServedShape) (m : History). (step ts m (at_tick first.hub.last_tick (apply_call kind s task.settings.summary))).1) caught.server.1 caught.server.0
+      ∙ ap (λ (ms : ℕ). (step w.hub.types w.hub.machine (at_tick ms (apply_call kind s task.settings.summary))).1) caught.server.2)) say.listable
 
   again : Catches task (suc j) second pages
   again =

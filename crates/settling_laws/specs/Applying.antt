@@ -1,5 +1,5 @@
 -- What an apply of counts asks, and what it makes of a machine.
-use Rattle.std.specs.Prelude.{◌≡◌, ◌<◌, ◌≤◌, ℕ, suc, true, List, length, Some, codes, slice_get}
+use Rattle.std.specs.Prelude.{◌≡◌, ◌<◌, ◌≤◌, ℕ, suc, true, List, length, Some, None, codes, slice_get}
 use Rattle.std.specs.declared.result.Result.TheVariants.{Ok}
 use Rattle.std.specs.FinMap as fin
 use Rattle.serde_json.specs.Written.{compact_text}
@@ -9,7 +9,7 @@ use Rattle.objects.specs.State.{State}
 use Rattle.objects.specs.declared.manager.Subresource.TheVariants.{Main}
 use Rattle.indexer.specs.Objects.{Place}
 use Rattle.api_request.specs.declared.verb.Verb.TheVariants.{Apply}
-use Rattle.api_request.specs.Calls.{Call, of_object, of_objects}
+use Rattle.api_request.specs.Calls.{Call, at_tick, of_object, of_objects}
 use Rattle.api_validation.specs.Size.{size_validated}
 use Rattle.verbs.specs.Machine.{IsMachine, IsNamed, state_under}
 use Rattle.verbs.specs.Step.{object_value_at, step}
@@ -37,6 +37,8 @@ apply_call kind s place = record {
   target = of_objects kind (of_object place.0 place.1 Main) Apply;
   query = codes "fieldManager=label-summary&force=true";
   body = Some (summary_of s place.0 place.1);
+  agent = None;
+  ticked = 0;
 }
 
 -- the counts fit into a body
@@ -69,15 +71,15 @@ pub record HasCounts (types : List ServedShape) (m after : History) (k : Key) (s
   pub exact : CountsAreOwn (state_at types m k) → SaysExactly s (state_at types after k) × CountsAreOwn (state_at types after k)
   pub others : (j : Key) → ¬ (j ≡ k) → fin.get (current_objects after) j ≡ fin.get (current_objects m) j
 
--- An apply of counts, whatever stood there, leads to an object that says them.
+-- An apply of counts, whenever it comes and whatever stood there, leads to an object that says them.
 abbrev pub ReconcilesApply : Type 0
 ReconcilesApply =
-    (types : List ServedShape) (m : History) (kind : ℕ) (s : Summed) (place : Place) → IsMachine types m → slice_get types kind ≡ Some summary_type
-    → IsNamed (key_of kind place) → IsSayable s → CanBeStored types m (key_of kind place) s → HasCounts types m (step types m (apply_call kind s place)).1 (key_of kind place) s
+    (types : List ServedShape) (m : History) (ms kind : ℕ) (s : Summed) (place : Place) → IsMachine types m → slice_get types kind ≡ Some summary_type
+    → IsNamed (key_of kind place) → IsSayable s → CanBeStored types m (key_of kind place) s → HasCounts types m (step types m (at_tick ms (apply_call kind s place))).1 (key_of kind place) s
 
 -- Where what an apply of the counts makes of the object is the object that stands, it changes nothing: there is no revision.
 abbrev pub AppliesStay : Type 0
 AppliesStay =
-    (types : List ServedShape) (m : History) (kind : ℕ) (s : Summed) (place : Place) → IsMachine types m → slice_get types kind ≡ Some summary_type
+    (types : List ServedShape) (m : History) (ms kind : ℕ) (s : Summed) (place : Place) → IsMachine types m → slice_get types kind ≡ Some summary_type
     → IsNamed (key_of kind place) → IsSayable s → fin.contains_key (current_objects m) (key_of kind place) ≡ true
-    → with_counts s (state_at types m (key_of kind place)) ≡ state_at types m (key_of kind place) → (step types m (apply_call kind s place)).1 ≡ m
+    → with_counts s (state_at types m (key_of kind place)) ≡ state_at types m (key_of kind place) → (step types m (at_tick ms (apply_call kind s place))).1 ≡ m

@@ -3,6 +3,7 @@ use Rattle.std.specs.Prelude.{◌≡◌, ◌≢◌, ℕ, suc, true, List, length
 use Rattle.std.specs.FinMap as fin
 use Rattle.api_types.specs.TypesFile.{ServedShape}
 use Rattle.history.specs.History.{History, Key, current_objects}
+use Rattle.api_request.specs.Calls.{at_tick}
 use Rattle.httpedge.specs.Connections.{Connection}
 use Rattle.reflector.specs.Client.{Cache}
 use Rattle.reflector.specs.Run.{taken}
@@ -45,7 +46,7 @@ pub record CanReconcile (task : Task) (kind : ℕ) (w : World) (now : Cache) : T
 
 -- the machine after an apply of these counts
 abbrev pub applied_machine : Task → ℕ → World → Summed → History
-applied_machine task kind w s = (step w.hub.types w.hub.machine (apply_call kind s task.settings.summary)).1
+applied_machine task kind w s = (step w.hub.types w.hub.machine (at_tick w.hub.last_tick (apply_call kind s task.settings.summary))).1
 
 -- the event leads to a world in which the object says the counts of the objects that stand at the revision. The types, the clock and the client's cache are as they were, and
 -- so is each connection

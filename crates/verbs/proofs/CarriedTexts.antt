@@ -1,5 +1,5 @@
 -- Texts of objects under the types that take the place of these.
-use Rattle.std.proofs.Common.{◌≡◌, ℕ, zero, suc, ◌≤◌, Bool, true, false, true≢false, not, List, [], ◌∷◌, Some, refl, sym, ap, ap₂, ◌∙◌, subst}
+use Rattle.std.proofs.Common.{◌≡◌, ℕ, zero, suc, ◌≤◌, Bool, true, false, true≢false, not, List, [], ◌∷◌, Option, Some, refl, sym, ap, ap₂, ◌∙◌, subst}
 use Rattle.std.specs.Prelude.{option_and_then, option_map, slice_get}
 use Rattle.std.specs.Str.{bytes_eq}
 use Rattle.std.proofs.lemmas.Bool.{and_parts}
@@ -17,14 +17,18 @@ use Rattle.api_types.specs.declared.profile.Profile.{Profile}
 use Rattle.history.specs.History.{Key, Object, last_revision}
 use Rattle.objects.specs.ObjectText.{object_text}
 use Rattle.objects.specs.WellTyped.{IsWellTypedState}
-use Rattle.objects.specs.ReadBack.{IsObjectText}
+use Rattle.objects.specs.ReadBack.{IsCounted, IsObjectText}
+use Rattle.objects.specs.State.{State}
+use Rattle.objects.specs.SystemMetadata.{Stamp, System, stamped}
 use Rattle.objects.proofs.Taken.{no_some, same_some}
 use Rattle.ownership.specs.Carry.{Carries, carried_state}
 use Rattle.ownership.specs.Sides.{OwnSides}
 use Rattle.ownership.proofs.CarriedStates.{carried_carries, carried_same}
-use Rattle.verbs.specs.Machine.{IsSomeTextAt, IsTextOf, identity_of, decoded_state}
+use Rattle.verbs.specs.Machine.{IsSomeTextAt, IsTextOf, identity_of, decoded_state, decoded_system}
 use Rattle.verbs.specs.Retyping.{carried_text, is_changed, text_unchanged, carried_text_at}
-use Rattle.verbs.proofs.Said.{printed_is_text, said_back, text_is}
+use Rattle.verbs.specs.IsSystem.{IsSystemBy}
+use Rattle.verbs.proofs.Said.{said_back, said_system, stamped_is_text, stamped_text_is}
+use Rattle.verbs.proofs.Systems.{later_by}
 
 not_false : (b : Bool) → not b ≡ false → b ≡ true
 not_false true h = refl
@@ -78,7 +82,10 @@ still_some_text types next_types may k r text is =
 module _ (types next_types : List ServedShape) (k : Key) (o : Object) (t u : ServedShape) (was : slice_get types k.kind ≡ Some t) (now : slice_get next_types k.kind ≡ Some u) (old : IsObjectShape t.shape) (new : IsObjectShape u.shape)
     (may : type_may_become t u ≡ true) (text : IsTextOf t k o.revision o.body) where
   said : decoded_state t.shape o.body ≡ text.state
-  said = said_back t.shape _ o.revision text.state o.body old text.says
+  said = said_back t.shape _ (stamped o.revision text.system) text.state o.body old text.says
+
+  system_said : decoded_system t.shape o.body ≡ text.system
+  system_said = said_system t.shape _ (stamped o.revision text.system) text.state o.body old text.says
 
   well_typed : IsWellTypedState t.shape (decoded_state t.shape o.body)
   well_typed = subst (IsWellTypedState t.shape) (sym said) text.says.well_typed
@@ -89,19 +96,26 @@ module _ (types next_types : List ServedShape) (k : Key) (o : Object) (t u : Ser
   pub under : (r : ℕ) → carried_text_at types next_types r k o ≡ Some (carried_text t u r k o)
   under r = ap₂ (λ a b. option_and_then (λ x. option_map (λ y. carried_text x y r k o) b) a) was now
 
-  new_says : (r : ℕ) → r ≤ last_revision → IsObjectText u.shape (identity_of u k) r (carried_state t.shape u.shape (decoded_state t.shape o.body)) (carried_text t u r k o)
-  new_says r low = printed_is_text u k r (carried_state t.shape u.shape (decoded_state t.shape o.body)) carry.well_typed low
+  abbrev new_stamp : ℕ → Stamp
+  new_stamp r = stamped r (decoded_system t.shape o.body)
 
-  pub new_text : (r : ℕ) → r ≤ last_revision → IsTextOf u k r (carried_text t u r k o)
-  new_text r low = record {
+  new_says : (r : ℕ) → r ≤ last_revision → IsObjectText u.shape (identity_of u k) (new_stamp r) (carried_state t.shape u.shape (decoded_state t.shape o.body)) (carried_text t u r k o)
+  new_says r low = stamped_is_text u k (new_stamp r) (carried_state t.shape u.shape (decoded_state t.shape o.body)) carry.well_typed low (subst IsCounted (sym system_said) text.says.counted)
+
+  pub new_text : (r : ℕ) → o.revision ≤ r → r ≤ last_revision → IsTextOf u k r (carried_text t u r k o)
+  new_text r later low = record {
     state = carried_state t.shape u.shape (decoded_state t.shape o.body);
+    system = decoded_system t.shape o.body;
     says = new_says r low;
+    is_system =
+        later_by u.profile o.revision r (decoded_system t.shape o.body) later
+        (subst (λ (p : Profile). IsSystemBy p o.revision (decoded_system t.shape o.body)) (sym (same_profile t u may)) (subst (IsSystemBy t.profile o.revision) (sym system_said) text.is_system));
     sides = carry.sides (is_apart u) (subst (λ x. OwnSides (is_apart u) x) (sym said) (subst (λ b. OwnSides b text.state) (sym (apart_stays t u may)) text.sides));
     named = text.named;
   }
 
   pub says_carried : (r : ℕ) → r ≤ last_revision → decoded_state u.shape (carried_text t u r k o) ≡ carried_state t.shape u.shape (decoded_state t.shape o.body)
-  says_carried r low = said_back u.shape _ r (carried_state t.shape u.shape (decoded_state t.shape o.body)) (carried_text t u r k o) new (new_says r low)
+  says_carried r low = said_back u.shape _ (new_stamp r) (carried_state t.shape u.shape (decoded_state t.shape o.body)) (carried_text t u r k o) new (new_says r low)
 
   -- where the text stays, it is the new one at its revision
   pub text_stays : is_changed types next_types (k, o) ≡ false → carried_text t u o.revision k o ≡ o.body
@@ -113,8 +127,12 @@ module _ (types next_types : List ServedShape) (k : Key) (o : Object) (t u : Ser
 pub same_text : (types : List ServedShape) (k : Key) (o : Object) (t : ServedShape) → slice_get types k.kind ≡ Some t → IsObjectShape t.shape → IsTextOf t k o.revision o.body → is_changed types types (k, o) ≡ false
 same_text types k o t serves shaped text =
     let state = decoded_state t.shape o.body in
-    let said : state ≡ text.state = said_back t.shape _ o.revision text.state o.body shaped text.says in
+    let stamp = stamped o.revision text.system in
+    let said : state ≡ text.state = said_back t.shape _ stamp text.state o.body shaped text.says in
+    let system : decoded_system t.shape o.body ≡ text.system = said_system t.shape _ stamp text.state o.body shaped text.says in
     let same : carried_text t t o.revision k o ≡ o.body =
-    text_is t k o.revision (carried_state t.shape t.shape state)
-    ∙ ap (λ x. object_text t.shape (identity_of t k) o.revision x) (carried_same t.shape state shaped (subst (IsWellTypedState t.shape) (sym said) text.says.well_typed) ∙ said) ∙ sym text.says.is_text in
+    stamped_text_is t k (stamped o.revision (decoded_system t.shape o.body)) (carried_state t.shape t.shape state)
+    ∙ ap₂ (λ (x : Option System) (y : State). object_text t.shape (identity_of t k) (stamped o.revision x) y) system
+    (carried_same t.shape state shaped (subst (IsWellTypedState t.shape) (sym said) text.says.well_typed) ∙ said)
+    ∙ sym text.says.is_text in
     ap (λ a. not (text_unchanged (option_and_then (λ x. option_map (λ y. carried_text x y o.revision k o) a) a) o.body)) serves ∙ ap not ((bytes_eq-Decides (carried_text t t o.revision k o) o.body).1 same)

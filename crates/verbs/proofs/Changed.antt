@@ -20,7 +20,7 @@ use Rattle.api_request.specs.Validated.{Validated}
 use Rattle.watchline.specs.Watches.{HistoryWindow, from_history}
 use Rattle.verbs.proofs.Changes.{current_objects_next}
 use Rattle.verbs.proofs.Runs.{changes_of_run}
-use Rattle.api_request.proofs.Checks.{changes_in, no_err, passed}
+use Rattle.api_request.proofs.Checks.{changes_in, no_err, passed, detailed_ok}
 use Rattle.discovery.specs.Paths.{text_in}
 use Rattle.verbs.proofs.Documents.{document_none}
 use Rattle.verbs.proofs.Fits.{Fits, planned_fits}
@@ -53,7 +53,7 @@ module _ (s : HistoryWindow) (call : Call) where
   by_none : (t : ServedShape) (kind : ℕ) (scope : Scope) (p : Plan) → dispatch_scope scope Get t kind s call ≡ Ok p → [] ≡ p.changes
   by_none t kind of_all p e = listed_none t kind None p e
   by_none t kind (of_namespace namespace) p e = listed_none t kind (Some namespace) p e
-  by_none t kind (of_object namespace name subresource) p e = got_none t (key_at kind namespace name) p e
+  by_none t kind (of_object namespace name subresource) p e = got_none t (key_at kind namespace name) p (detailed_ok t (Some name) _ p e)
 
   type_none : (found : Option ServedShape) (kind : ℕ) (scope : Scope) (p : Plan) → dispatch_type found kind scope Get s call ≡ Ok p → [] ≡ p.changes
   type_none None kind scope p e = no_err _ p e

@@ -8,7 +8,7 @@ use Rattle.history.specs.History.{Key, Change, Object, Objects, History, IsHisto
 use Rattle.history.specs.Whole.{IsWhole}
 use Rattle.history.proofs.Keys.{get-put_or_remove, tied}
 use Rattle.history.proofs.Lists.{all-filter}
-use Rattle.history.proofs.Revisions.{changed-append, up_to-all}
+use Rattle.history.proofs.Revisions.{all_within, changed-append, up_to-all}
 use Rattle.history.proofs.Wholes.{whole_is, whole_writes}
 use Rattle.objects.proofs.Taken.{no_some, same_some}
 use Rattle.verbs.specs.Machine.{AreObjectTypes, AreTexts, IsMachine, IsNext, IsOfTypes, IsSomeTextAt, IsTextAt}
@@ -54,6 +54,22 @@ pub texts_at : (types : List ServedShape) (m : History) (r : ℕ) (k : Key) (o :
 texts_at types m r k o is there =
     texts_changed (IsSomeTextAt types) (up_to r m.changes) fin.empty (none_represents (IsSomeTextAt types))
     (all-filter (IsOfTypes types) (λ c. nat_le c.revision r) m.changes is.texts) k o there
+
+-- ---- what stands is of a revision up to the current one
+
+bodies_within : (top : ℕ) (cs : List Change) → AllByRecursion (λ c. c.revision ≤ top) cs → AllByRecursion (λ c. IfSome c.body (λ text. c.revision ≤ top)) cs
+bodies_within top [] all = tt
+bodies_within top (c ∷ cs) all = (go c.body, bodies_within top cs all.1)
+  where
+    go : (body : Option (List ℕ)) → IfSome body (λ text. c.revision ≤ top)
+    go None = tt
+    go (Some text) = all.0
+
+pub standing_within : (types : List ServedShape) (m : History) (k : Key) (o : Object) → IsMachine types m → fin.get (current_objects m) k ≡ Some o → o.revision ≤ m.current
+standing_within types m k o is there =
+    let rising = (is_history types m is).rising in
+    texts_changed (λ q r text. r ≤ m.current) m.changes fin.empty (none_represents (λ q r text. r ≤ m.current)) (bodies_within m.current m.changes (all_within 0 m.current m.changes rising)) k o
+    (ap (λ (s : Objects). fin.get s k) (sym (current_objects_is m (is_history types m is))) ∙ there)
 
 -- ---- one more change
 

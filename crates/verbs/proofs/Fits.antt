@@ -33,7 +33,7 @@ use Rattle.verbs.specs.Views.{objects_in}
 use Rattle.api_validation.specs.Size.{size_validated}
 use Rattle.watchline.specs.Watches.{HistoryWindow, from_view}
 use Rattle.verbs.specs.Step.{Creation, Intent, apply_plan, at_path, body_of, created_as, creation_validated, delete_plan, deleted_over, get_plan, intent_of, dispatch_type, dispatch_scope, dispatch_call, plan_without_change, key_at, manager_for, require_absent, dispatch_object, plan_for, planned_over, ownership_validated, object_value_at, revisions_left, plan_put, plan_put_unless_same, require_found, require_object_of_status, update_plan, updated_by, updated_over, version_checked, version_reached, collection_of, list_answered, list_plan, shown_by, dispatch_target}
-use Rattle.api_request.proofs.Checks.{changes_in, no_err, ok_is, passed}
+use Rattle.api_request.proofs.Checks.{changes_in, no_err, ok_is, passed, detailed_ok}
 use Rattle.discovery.specs.Paths.{text_in}
 use Rattle.verbs.proofs.Documents.{document_none}
 use Rattle.verbs.specs.DryRuns.{is_dry_run}
@@ -184,7 +184,7 @@ module _ (s : HistoryWindow) (call : Call) where
   scope_fits kind (of_namespace namespace) w is t p e =
       collection_fits w t kind namespace (λ name given. record { kind = ap kind_of is; namespace = ap namespace_of is; name = body_name name (ap object_name is) given }) p e
   scope_fits kind (of_object namespace name subresource) w is t p e =
-      object_fits w subresource t (key_at kind namespace name) (record { kind = ap kind_of is; namespace = ap namespace_of is; name = path_name name (ap object_name is) }) p e
+      object_fits w subresource t (key_at kind namespace name) (record { kind = ap kind_of is; namespace = ap namespace_of is; name = path_name name (ap object_name is) }) p (detailed_ok t (Some name) _ p e)
 
   type_fits : (kind : ℕ) (scope : Scope) (w : Verb) → call.target ≡ of_objects kind scope w → (found : Option ServedShape) → AllFit (dispatch_type found kind scope w s call)
   type_fits kind scope w is None p e = no_err _ p e

@@ -18,14 +18,15 @@ use Rattle.history.specs.Writes.{changes_by}
 use Rattle.history.proofs.Lists.{all-filter}
 use Rattle.objects.specs.ReadBack.{IsObjectText}
 use Rattle.objects.specs.State.{State}
+use Rattle.objects.specs.SystemMetadata.{System, stamped}
 use Rattle.objects.proofs.Taken.{no_some, same_some}
 use Rattle.ownership.specs.Carry.{carried_state}
 use Rattle.verbs.specs.declared.fault.RetypeFault.{RetypeFault}
 use Rattle.verbs.specs.GatheredViews.{AreReadable, AreWritable, IsReadableEntry, IsTooMany, carried_at, gathered}
-use Rattle.verbs.specs.Machine.{AreTexts, IsReadable, identity_of, decoded_state}
+use Rattle.verbs.specs.Machine.{AreTexts, IsReadable, identity_of, decoded_state, decoded_system}
 use Rattle.verbs.specs.Retyping.{RetypeRefusal, is_changed, text_unchanged, carried_text_at, too_few_revisions, writes_from}
 use Rattle.verbs.specs.Views.{retype_refusal}
-use Rattle.verbs.specs.Step.{text_at}
+use Rattle.verbs.specs.Step.{text_stamped}
 use Rattle.verbs.proofs.Changes.{all_push}
 use Rattle.verbs.proofs.ByTypes.{all_entries, all_types, is_before, no_type, of_types_before, one_more_type}
 
@@ -56,21 +57,24 @@ has_new_type None b body new is none = no_some new (sym is)
 has_new_type (Some x) None body new is none = no_some new (sym is)
 has_new_type (Some x) (Some u) body new is none = no_some u (sym none)
 
-module _ (types next_types : List ServedShape) (e : Key × Object) (new : State) (u : ServedShape) (carries : carried_at types next_types e ≡ Some new) (there : slice_get next_types e.0.kind ≡ Some u) where
+module _ (types next_types : List ServedShape) (e : Key × Object) (new : State × Option System) (u : ServedShape) (carries : carried_at types next_types e ≡ Some new) (there : slice_get next_types e.0.kind ≡ Some u) where
+  abbrev of_types : ServedShape → ServedShape → State × Option System
+  of_types x v = (carried_state x.shape v.shape (decoded_state x.shape e.1.body), decoded_system x.shape e.1.body)
+
   -- its text under its new type
-  pub text_is : (r : ℕ) → carried_text_at types next_types r e.0 e.1 ≡ Some (text_at u e.0 r new)
+  pub text_is : (r : ℕ) → carried_text_at types next_types r e.0 e.1 ≡ Some (text_stamped u e.0 (stamped r new.1) new.0)
   text_is r = go (slice_get types e.0.kind) (slice_get next_types e.0.kind) carries there
     where
-      go : (a b : Option ServedShape) → option_and_then (λ x. option_map (λ v. carried_state x.shape v.shape (decoded_state x.shape e.1.body)) b) a ≡ Some new → b ≡ Some u
-          → option_and_then (λ x. option_map (λ v. text_at v e.0 r (carried_state x.shape v.shape (decoded_state x.shape e.1.body))) b) a ≡ Some (text_at u e.0 r new)
+      go : (a b : Option ServedShape) → option_and_then (λ x. option_map (λ v. of_types x v) b) a ≡ Some new → b ≡ Some u
+          → option_and_then (λ x. option_map (λ v. text_stamped v e.0 (stamped r (of_types x v).1) (of_types x v).0) b) a ≡ Some (text_stamped u e.0 (stamped r new.1) new.0)
       go None b is same = no_some new (sym is)
       go (Some x) None is same = no_some new (sym is)
       go (Some x) (Some v) is same =
-          ap (λ (y : State). Some (text_at v e.0 r y)) (same_some (carried_state x.shape v.shape (decoded_state x.shape e.1.body)) new is)
-          ∙ ap (λ (y : ServedShape). Some (text_at y e.0 r new)) (same_some v u same)
+          ap (λ (y : State × Option System). Some (text_stamped v e.0 (stamped r y.1) y.0)) (same_some (of_types x v) new is)
+          ∙ ap (λ (y : ServedShape). Some (text_stamped y e.0 (stamped r new.1) new.0)) (same_some v u same)
 
   -- whether it changes, by what is printed at its own revision
-  pub change_is : (text : List ℕ) → text ≡ text_at u e.0 e.1.revision new → is_changed types next_types e ≡ not (bytes_eq text e.1.body)
+  pub change_is : (text : List ℕ) → text ≡ text_stamped u e.0 (stamped e.1.revision new.1) new.0 → is_changed types next_types e ≡ not (bytes_eq text e.1.body)
   change_is text printed = ap (λ o. not (text_unchanged o e.1.body)) (text_is e.1.revision ∙ ap Some (sym printed))
 
 pub same_shape : (a : Option ServedShape) (t : ServedShape) (s : Shape) → Some t ≡ a → Some s ≡ option_map (λ x. x.shape) a → s ≡ t.shape
@@ -88,7 +92,8 @@ no_shape_there (Some x) t is none = no_some x.shape (sym none)
 
 pub readable_entry : (types : List ServedShape) (e : Key × Object) (t : ServedShape) → Some t ≡ slice_get types e.0.kind → IsReadableEntry types e → IsReadable t e.0 (Some e.1)
 readable_entry types e t there x =
-    (e.1.revision, x.is_text.state, subst (λ (u : ServedShape). IsObjectText u.shape (identity_of u e.0) e.1.revision x.is_text.state e.1.body) (same_some x.t t (sym x.served ∙ sym there)) x.is_text.says)
+    let stamp = stamped e.1.revision x.is_text.system in
+    (stamp, x.is_text.state, subst (λ (u : ServedShape). IsObjectText u.shape (identity_of u e.0) stamp x.is_text.state e.1.body) (same_some x.t t (sym x.served ∙ sym there)) x.is_text.says)
 
 -- ---- several
 

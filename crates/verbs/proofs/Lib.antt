@@ -15,6 +15,7 @@ pub mod Promise
 pub mod Recalling
 pub mod Served
 pub mod Said
+pub mod Systems
 pub mod Sides
 pub mod CarriedTexts
 pub mod Retypings

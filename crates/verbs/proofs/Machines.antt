@@ -25,7 +25,7 @@ use Rattle.history.proofs.Wholes.{whole_compacts, whole_fresh}
 use Rattle.api_request.specs.Calls.{Call, Plan, Scope, of_all, of_namespace, of_object, Target, of_objects, of_document, type_at}
 use Rattle.api_request.specs.Json.{IsJsonBody}
 use Rattle.api_validation.specs.Parameters.{parameters_for}
-use Rattle.api_request.specs.Validated.{Validated, and_then}
+use Rattle.api_request.specs.Validated.{Validated, and_then, detailed}
 use Rattle.api_request.specs.declared.verb.Verb.{Verb}
 use Rattle.api_request.specs.declared.verb.Verb.TheVariants.{Get, Create, Update, Apply, Delete}
 use Rattle.verbs.specs.Machine.{IsMachine}
@@ -94,7 +94,7 @@ module _ (types : List ServedShape) (m : History) (is : IsMachine types m) where
   by_seen (of_namespace namespace) Apply t kind call = refl
   by_seen (of_namespace namespace) Delete t kind call = refl
   by_seen (of_object namespace name subresource) w t kind call =
-      ap (λ (os : Objects). dispatch_object w subresource t m.current (fin.get os (key_at kind namespace name)) (key_at kind namespace name) call.query call.body) (current_objects_seen types m is)
+      ap (λ (os : Objects). detailed t (Some name) (dispatch_object w subresource t m.current (fin.get os (key_at kind namespace name)) (key_at kind namespace name) call.query call.body)) (current_objects_seen types m is)
 
   type_seen : (found : Option ServedShape) (kind : ℕ) (scope : Scope) (w : Verb) (call : Call) → dispatch_type found kind scope w (from_view (view m)) call ≡ dispatch_type found kind scope w (from_history m) call
   type_seen None kind scope w call = refl

@@ -10,6 +10,7 @@ use Rattle.history.specs.History.{Change, History, Key, Object, Objects, compact
 use Rattle.history.specs.View.{View, compacted_in, written_in}
 use Rattle.history.proofs.Seen.{view_compacts, view_writes}
 use Rattle.objects.specs.ReadBack.{IsObjectText}
+use Rattle.objects.specs.SystemMetadata.{stamped}
 use Rattle.objects.proofs.Taken.{same_some}
 use Rattle.watchline.specs.Watches.{from_view}
 use Rattle.verbs.specs.declared.api.Api.{Api}
@@ -45,7 +46,8 @@ pub readable_at : (types : List ServedShape) (t : ServedShape) (k : Key) (object
 readable_at types t k objects None is serves texts = tt
 readable_at types t k objects (Some o) is serves texts =
     let x = texts k o is in
-    (o.revision, x.is_text.state, subst (λ (u : ServedShape). IsObjectText u.shape (identity_of u k) o.revision x.is_text.state o.body) (same_some x.t t (sym x.served ∙ serves)) x.is_text.says)
+    let stamp = stamped o.revision x.is_text.system in
+    (stamp, x.is_text.state, subst (λ (u : ServedShape). IsObjectText u.shape (identity_of u k) stamp x.is_text.state o.body) (same_some x.t t (sym x.served ∙ serves)) x.is_text.says)
 
 -- ---- what is planned may come next
 

@@ -33,6 +33,7 @@ use Rattle.ownership.proofs.Sameness.{same_value-itself}
 use Rattle.objects.proofs.Taken.{no_some}
 use Rattle.objects.proofs.Taking.{owned_other}
 use Rattle.objects.specs.State.{State}
+use Rattle.objects.specs.SystemMetadata.{plain_stamp, stamped}
 use Rattle.ownership.specs.Apply.{conflicts, applied, is_refused}
 use Rattle.ownership.specs.Keeping.{OthersKeep}
 use Rattle.ownership.specs.Sameness.{same_state}
@@ -44,8 +45,7 @@ use Rattle.api_request.specs.Json.{IsJson, IsJsonBody}
 use Rattle.api_validation.specs.Envelope.{Expected, api_version_of, envelope_of, name_in}
 use Rattle.std.specs.declared.result.Result.{Result}
 use Rattle.lists.specs.declared.refusal.Refusal.{Refusal}
-use Rattle.api_request.specs.declared.reason.Reason.TheVariants.{Invalid}
-use Rattle.api_request.specs.Validated.{Validated, and_then, require}
+use Rattle.api_request.specs.Validated.{Validated, and_then, require_at}
 use Rattle.verbs.specs.Machine.{AreNext, AreTexts, IsMachine, IsNamed, IsNext, IsOfTypes, IsSomeTextAt, IsTextAt, after, identity_of, no_state, state_by, state_of_existing, decoded_state, state_under}
 use Rattle.api_validation.specs.Naming.{labels_and_annotations_validated_by, metadata_object, names_validated, path_validated, required_name}
 use Rattle.api_validation.specs.Options.{options_validated}
@@ -58,12 +58,13 @@ use Rattle.verbs.specs.Step.{Intent, applied_over, apply_plan, at_path, body_of,
 use Rattle.verbs.proofs.Runs.{changes_of_run}
 use Rattle.watchline.specs.Watches.{HistoryWindow, from_history}
 use Rattle.verbs.proofs.Changes.{machine_next, current_objects_next, texts_at}
-use Rattle.api_request.proofs.Checks.{changes_in, held, no_err, ok_is, passed}
+use Rattle.api_request.proofs.Checks.{changes_in, held, held_at, no_err, ok_is, passed, detailed_ok}
 use Rattle.discovery.specs.Paths.{text_in}
 use Rattle.verbs.proofs.Documents.{document_none}
 use Rattle.verbs.proofs.Contents.{intended_content}
 use Rattle.verbs.proofs.Sides.{IsStored, existing_stored, nothing_stored, owned_apart, owned_stored, represents_own, updated_by_apart, updated_stored}
 use Rattle.verbs.proofs.Said.{Shapes, printed_is_text, said_back, shapes_of}
+use Rattle.verbs.proofs.Systems.{nothing_said}
 
 -- ---- what a call plans: no change; a deletion of what is there; or a text of a placed state that is as R says beside the one before
 
@@ -78,7 +79,7 @@ WritesBy types current objects D R = AtMostOne (λ c. (c.revision ≡ suc curren
 -- the checks of size and names say so
 short_enough : (d : Data) (u : Unit {0}) → size_validated d ≡ Ok u → length (compact_text d) ≤ max_bytes
 short_enough d u e =
-    let few = passed (require (nat_le (count_if_there (metadata_object (codes "labels") d)) max_labels) Invalid (codes "metadata.labels: more than 64")) _ u e in
+    let few = passed (require_at (nat_le (count_if_there (metadata_object (codes "labels") d)) max_labels) (codes "metadata.labels") (codes "more than 64")) _ u e in
     by_test (is_over d) refl (held (not (is_over d)) _ _ u few.2)
   where
     by_test : (b : Bool) → is_over d ≡ b → not b ≡ true → length (compact_text d) ≤ max_bytes
@@ -88,8 +89,8 @@ short_enough d u e =
 is_named : (by : Subresource) (k : Key) (body : Data) (u : Unit {0}) → names_validated by k.namespace k.name body ≡ Ok u → IsNamed k
 is_named by k body u e =
     let path = passed (path_validated k.namespace k.name) _ u e in
-    let first = passed (require (is_dns_subdomain k.name) Invalid (codes "metadata.name: bad name")) _ path.0 path.1 in
-    record { namespace = held (is_dns_label k.namespace) _ _ path.0 first.2; name = held (is_dns_subdomain k.name) _ _ first.0 first.1 }
+    let first = passed (require_at (is_dns_subdomain k.name) (codes "metadata.name") (codes "bad name")) _ path.0 path.1 in
+    record { namespace = held_at (is_dns_label k.namespace) (codes "metadata.namespace") (codes "bad namespace") path.0 first.2; name = held_at (is_dns_subdomain k.name) (codes "metadata.name") (codes "bad name") first.0 first.1 }
 
 next_left : (n : ℕ) → n < last_revision → suc n ≤ last_revision
 next_left n lt = lt
@@ -345,7 +346,7 @@ module _ (types : List ServedShape) (s : HistoryWindow) (shapes : Shapes types) 
   by_writes : (scope : Scope) (w : Verb) (t : ServedShape) (kind : ℕ) → slice_get types kind ≡ Some t → Writes (dispatch_scope scope w t kind s call)
   by_writes of_all w t kind serves p e = all_writes w t kind p e
   by_writes (of_namespace namespace) w t kind serves p e = collection_writes w t kind namespace serves p e
-  by_writes (of_object namespace name subresource) w t kind serves p e = object_writes w subresource t (key_at kind namespace name) serves p e
+  by_writes (of_object namespace name subresource) w t kind serves p e = object_writes w subresource t (key_at kind namespace name) serves p (detailed_ok t (Some name) _ p e)
 
   type_writes : (found : Option ServedShape) (kind : ℕ) (scope : Scope) (w : Verb) → slice_get types kind ≡ found → Writes (dispatch_type found kind scope w s call)
   type_writes None kind scope w is p e = no_err _ p e
@@ -369,7 +370,9 @@ written_text types objects D R c (Some text) low is = record {
   served = is.1;
   is_text = record {
     state = is.2;
-    says = subst (λ x. IsObjectText is.0.shape (identity_of is.0 c.key) c.revision is.2 x) (sym is.4) (printed_is_text is.0 c.key c.revision is.2 is.3.0 low);
+    system = None;
+    says = subst (λ x. IsObjectText is.0.shape (identity_of is.0 c.key) (plain_stamp c.revision) is.2 x) (sym is.4) (printed_is_text is.0 c.key c.revision is.2 is.3.0 low);
+    is_system = nothing_said is.0 c.revision;
     sides = is.3.1;
     named = is.7;
   };
@@ -423,7 +426,7 @@ steps_keep_machines types m call is json = after_machine types m (planned types 
 -- ---- texts say their states
 
 text_says : (types : List ServedShape) (k : Key) (r : ℕ) (text : List ℕ) → IsSomeTextAt types k r text → DecodesTo types k r text
-text_says types k r text is = (is, sym (said_back is.shape _ r is.is_text.state text is.shaped is.is_text.says))
+text_says types k r text is = (is, sym (said_back is.shape _ (stamped r is.is_text.system) is.is_text.state text is.shaped is.is_text.says))
 
 pub texts_say_states : TextsSayStates
 texts_say_states types m r k o is there = text_says types k o.revision o.body (texts_at types m r k o is there)
@@ -433,7 +436,7 @@ stored_texts_decode types m k o is there =
     let x = is.stand k o there in (
       x,
       sym (ap (λ u. state_by u (fin.get (current_objects m) k)) x.served ∙ ap (state_of_existing x.t) there
-          ∙ said_back x.t.shape _ o.revision x.is_text.state o.body ((shapes_of types is.shapes) k.kind x.t x.served) x.is_text.says),
+          ∙ said_back x.t.shape _ (stamped o.revision x.is_text.system) x.is_text.state o.body ((shapes_of types is.shapes) k.kind x.t x.served) x.is_text.says),
     )
 
 body_says : (types : List ServedShape) (c : Change) (body : Option (List ℕ)) → IfSome body (IsSomeTextAt types c.key c.revision) → IfSome body (DecodesTo types c.key c.revision)
@@ -470,7 +473,7 @@ module _ (types : List ServedShape) (s : HistoryWindow) (call : Call) (json : Is
   scope_keeps kind (of_namespace namespace) is t serves p e = absurd (everywhere (of_namespace namespace) t kind p tt e)
   scope_keeps kind (of_object namespace name by) is t serves p e =
       let k = key_at kind namespace name in
-      let body = passed (body_of call.body) (validated by t k) p (sym (object by t k) ∙ e) in
+      let body = passed (body_of call.body) (validated by t k) p (sym (object by t k) ∙ detailed_ok t (Some name) _ p e) in
       keeps t k serves (ap (type_at types) is ∙ serves) body.0 p (body_json call.body body.0 json body.1)
       (subst (λ (b : Subresource). validated b t k body.0 ≡ Ok p) (sym (ap subresource_of is)) body.2)
 
@@ -499,7 +502,7 @@ module _ (types : List ServedShape) (m : History) (is : IsMachine types m) (R : 
       let says = printed_is_text b.0 c.key c.revision b.2 b.3.0 low in
       subst (R (state_under types (current_objects m) c.key))
       (sym (ap (λ u. state_by u (object_by (suc m.current) (Some text))) b.1 ∙ ap (decoded_state b.0.shape) b.4
-      ∙ said_back b.0.shape _ c.revision b.2 (text_at b.0 c.key c.revision b.2) ((shapes_of types is.shapes) c.key.kind b.0 b.1) says))
+      ∙ said_back b.0.shape _ (plain_stamp c.revision) b.2 (text_at b.0 c.key c.revision b.2) ((shapes_of types is.shapes) c.key.kind b.0 b.1) says))
       b.5
 
   under_put : (c : Change) (k : Key) → R (state_under types (current_objects m) c.key) (state_by (slice_get types c.key.kind) (object_by (suc m.current) c.body))

@@ -11,9 +11,9 @@ use Rattle.objects.proofs.Taken.{same_some}
 use Rattle.api_request.specs.declared.calls.Plan.{Plan as ThePlan}
 use Rattle.verbs.specs.declared.cached.CachedState.{CachedState}
 use Rattle.verbs.specs.declared.cached.PlannedStates.{PlannedStates}
-use Rattle.verbs.specs.CachedStateViews.{AreCoherentOf, IsCoherent, IsCoherentAt, IsDecodedFrom}
+use Rattle.verbs.specs.CachedStateViews.{AreCoherentOf, IsCoherent, IsCoherentAt, IsDecodedFrom, IsSystemFrom}
 use Rattle.verbs.specs.Step.{text_at}
-use Rattle.verbs.proofs.Said.{printed_says}
+use Rattle.verbs.proofs.Said.{printed_says, printed_system}
 
 pub right_of : (types : List ServedShape) (kind : ℕ) (t : ServedShape) (known : Option CachedState) → slice_get types kind ≡ Some t
     → IfSome known (IsCoherentAt types kind) → IfSome known (IsCoherent t)
@@ -39,3 +39,9 @@ pub answer_says : {E : Type 0} (t : ServedShape) (k : Key) (n : ℕ) (s : State)
     → text ≡ text_at t k (suc n) s → OnOk r (n < last_revision) → IfOk r (λ p. string_bytes p.answer.body ≡ text) → IfOk r (λ p. IsDecodedFrom t (string_bytes p.answer.body) s)
 answer_says t k n s text (Err e) shaped well_typed is low same = tt
 answer_says t k n s text (Ok p) shaped well_typed is low same = subst (λ x. IsDecodedFrom t x s) (sym (same ∙ is)) (printed_says t k (suc n) s shaped well_typed low)
+
+-- .. and the system says nothing in it but the version
+pub answer_system : {E : Type 0} (t : ServedShape) (k : Key) (n : ℕ) (s : State) (text : List ℕ) (r : Result ThePlan E) → IsObjectShape t.shape → IsWellTypedState t.shape s
+    → text ≡ text_at t k (suc n) s → OnOk r (n < last_revision) → IfOk r (λ p. string_bytes p.answer.body ≡ text) → IfOk r (λ p. IsSystemFrom t (string_bytes p.answer.body) None)
+answer_system t k n s text (Err e) shaped well_typed is low same = tt
+answer_system t k n s text (Ok p) shaped well_typed is low same = subst (λ x. IsSystemFrom t x None) (sym (same ∙ is)) (printed_system t k (suc n) s shaped well_typed low)

@@ -1,5 +1,5 @@
 -- Where other types take the place of these: a machine stays one, each object is carried, and what stays so stays.
-use Rattle.std.proofs.Common.{◌≡◌, ℕ, suc, ◌+◌, ◌≤◌, Bool, true, false, true≢false, cond, List, [], ◌∷◌, ◌++◌, length, Option, Some, None, is_some, Ok, Err, inl, inr, refl, sym, ap, ap₂, ◌∙◌, subst, arith, leb-true, le-leb}
+use Rattle.std.proofs.Common.{◌≡◌, ℕ, suc, ◌+◌, ◌<◌, ◌≤◌, Bool, true, false, true≢false, cond, List, [], ◌∷◌, ◌++◌, length, Option, Some, None, is_some, Ok, Err, inl, inr, refl, sym, ap, ap₂, ◌∙◌, subst, arith, leb-true, le-leb}
 use Rattle.std.specs.Prelude.{IfSome, filter, nat_le, slice_get}
 use Rattle.std.specs.declared.result.Result.{Result}
 use Rattle.std.specs.FinMap as fin
@@ -27,7 +27,7 @@ use Rattle.verbs.specs.Machine.{AreObjectTypes, AreTexts, IsMachine, IsOfTypes, 
 use Rattle.verbs.specs.PromiseLaws.{RetypingsCarryObjects, RetypingsKeepMachines, RetypingsLeaveTexts, SameTypesChangeNothing}
 use Rattle.verbs.specs.Retyping.{RetypeRefusal, carried_text, changed_objects, if_declared, if_compatible, if_revisions_left, is_changed, not_lawful, not_types, retyped, retyping, retyping_writes, carried_text_at, too_few_revisions, writes_from}
 use Rattle.verbs.proofs.CarriedTexts.{new_text, new_type, same_text, says_carried, still_some_text, text_stays, under}
-use Rattle.verbs.proofs.Changes.{is_history}
+use Rattle.verbs.proofs.Changes.{is_history, standing_within}
 use Rattle.verbs.proofs.Rewritten.{Entries, HasText, IsWritten, StaysOrWritten, all_picked, all_stand, as_many, has_key, none_goes, not_picked, current_objects_all, stays_or_written}
 use Rattle.verbs.proofs.Said.{Shapes, shapes_of}
 
@@ -100,10 +100,11 @@ module _ (types next_types : List ServedShape) (m : History) (is : IsMachine typ
     was : slice_get types k.kind ≡ Some t
     now : slice_get next_types k.kind ≡ Some u
     text : (r : ℕ) → carried_text_at types next_types r k o ≡ Some (carried_text t u r k o)
-    is_text : (r : ℕ) → r ≤ last_revision → IsTextOf u k r (carried_text t u r k o)
+    is_text : (r : ℕ) → o.revision ≤ r → r ≤ last_revision → IsTextOf u k r (carried_text t u r k o)
     says : (r : ℕ) → r ≤ last_revision → decoded_state u.shape (carried_text t u r k o) ≡ carried_state t.shape u.shape (decoded_state t.shape o.body)
     stays : is_changed types next_types (k, o) ≡ false → carried_text t u o.revision k o ≡ o.body
     numbered : o.revision ≤ last_revision
+    within : o.revision ≤ m.current
 
   represents_under : (k : Key) (o : Object) → fin.get (current_objects m) k ≡ Some o → Under k o
   represents_under k o there =
@@ -121,6 +122,7 @@ module _ (types next_types : List ServedShape) (m : History) (is : IsMachine typ
         says = says_carried types next_types k o x.t new.u x.served new.serves old shaped new.may x.is_text;
         stays = text_stays types next_types k o x.t new.u x.served new.serves old shaped new.may x.is_text;
         numbered = x.is_text.says.numbered;
+        within = standing_within types m k o is there;
       }
 
   abbrev changing : Entries
@@ -147,14 +149,15 @@ module _ (types next_types : List ServedShape) (m : History) (is : IsMachine typ
   still_body c None old = tt
   still_body c (Some text) old = still_some_text types next_types served.may c.key c.revision text old
 
-  new_changes : (n : ℕ) (es : Entries) → n + length es ≤ last_revision → AllByRecursion Changes es → AllByRecursion (IsOfTypes next_types) (changes_by n (writes_from types next_types n es))
-  new_changes n [] fits all = tt
-  new_changes n (e ∷ es) fits all =
+  new_changes : (n : ℕ) (es : Entries) → m.current ≤ n → n + length es ≤ last_revision → AllByRecursion Changes es → AllByRecursion (IsOfTypes next_types) (changes_by n (writes_from types next_types n es))
+  new_changes n [] since fits all = tt
+  new_changes n (e ∷ es) since fits all =
       let x = represents_under e.0 e.1 all.0.0 in
-      let low : suc n ≤ last_revision = omega (arith, fits) in (
+      let low : suc n ≤ last_revision = omega (arith, fits) in
+      let within : e.1.revision ≤ m.current = x.within in (
         subst (λ body. IfSome body (IsSomeTextAt next_types e.0 (suc n))) (sym (x.text (suc n)))
-            (record { t = x.u; served = x.now; shape = x.u.shape; shaped = then_shaped e.0.kind x.u x.now; is_text = x.is_text (suc n) low }),
-        new_changes (suc n) es (omega (arith, fits)) all.1,
+            (record { t = x.u; served = x.now; shape = x.u.shape; shaped = then_shaped e.0.kind x.u x.now; is_text = x.is_text (suc n) (omega (arith, within, since)) low }),
+        new_changes (suc n) es (omega (arith, since)) (omega (arith, fits)) all.1,
       )
 
   then_texts : AllByRecursion (IsOfTypes next_types) (retyped types next_types m).changes
@@ -162,7 +165,7 @@ module _ (types next_types : List ServedShape) (m : History) (is : IsMachine typ
   then_texts =
       subst (AllByRecursion (IsOfTypes next_types)) (sym (changes_all m (retyping_writes types next_types m)))
       (all_append (IsOfTypes next_types) m.changes (changes_by m.current (retyping_writes types next_types m))
-      (all_weaker (IsOfTypes types) (IsOfTypes next_types) (λ c. still_body c c.body) m.changes is.texts) (new_changes m.current changing served.left all_change))
+      (all_weaker (IsOfTypes types) (IsOfTypes next_types) (λ c. still_body c c.body) m.changes is.texts) (new_changes m.current changing (omega arith) served.left all_change))
 
   -- ---- what stands then
 
@@ -199,14 +202,16 @@ module _ (types next_types : List ServedShape) (m : History) (is : IsMachine typ
       of_written : (x : IsWritten types next_types Changes m.current changing k (now_at k)) → fin.get (current_objects m) k ≡ Some x.e.1 → IsTextAt next_types k o.revision o.body
       of_written x before =
           let y = represents_under k x.e.1 before in
+          let within : x.e.1.revision ≤ m.current = y.within in
+          let after : m.current < x.revision = x.low in
           subst (λ z. IsTextAt next_types k z.revision z.body) (same_some (record { revision = x.revision; body = carried_text y.t y.u x.revision k x.e.1 }) o (sym (written_text k x x.e.1 before y) ∙ there))
-          (record { t = y.u; served = y.now; is_text = y.is_text x.revision (fits k x) })
+          (record { t = y.u; served = y.now; is_text = y.is_text x.revision (omega (arith, within, after)) (fits k x) })
 
       by_case : StaysOrWritten types next_types Changes m.current changing (current_objects m) k (now_at k) → IsTextAt next_types k o.revision o.body
       by_case (inl stays) =
           let before : fin.get (current_objects m) k ≡ Some o = sym stays.1 ∙ there in
           let y = represents_under k o before in
-          record { t = y.u; served = y.now; is_text = subst (IsTextOf y.u k o.revision) (y.stays (unchanged k o before stays.0)) (y.is_text o.revision y.numbered) }
+          record { t = y.u; served = y.now; is_text = subst (IsTextOf y.u k o.revision) (y.stays (unchanged k o before stays.0)) (y.is_text o.revision (omega arith) y.numbered) }
       by_case (inr x) = of_written x (ap (fin.get (current_objects m)) x.of ∙ x.is.0)
 
   then_machine : IsMachine next_types (retyped types next_types m)

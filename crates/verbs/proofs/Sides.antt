@@ -10,6 +10,7 @@ use Rattle.history.specs.History.{Key, Object, Objects}
 use Rattle.objects.specs.Owners.{Manager, apply_operation, update_operation}
 use Rattle.objects.specs.WellTyped.{IsWellTypedState}
 use Rattle.objects.specs.State.{State}
+use Rattle.objects.specs.SystemMetadata.{stamped}
 use Rattle.objects.proofs.Taken.{same_some}
 use Rattle.ownership.specs.Apply.{applied, conflicts, is_refused}
 use Rattle.ownership.specs.Sides.{OtherSideStays, OwnSides, beside_others, own_part}
@@ -36,7 +37,7 @@ module _ (types : List ServedShape) (objects : Objects) (shapes : Shapes types) 
       let x = texts k o is in
       let same : x.t ≡ t = same_some x.t t (sym x.served ∙ serves) in
       subst (λ (u : ServedShape). IsStored u (decoded_state u.shape o.body)) same
-      (subst (IsStored x.t) (sym (said_back x.t.shape _ o.revision x.is_text.state o.body (shapes k.kind x.t x.served) x.is_text.says)) (x.is_text.says.well_typed, x.is_text.sides))
+      (subst (IsStored x.t) (sym (said_back x.t.shape _ (stamped o.revision x.is_text.system) x.is_text.state o.body (shapes k.kind x.t x.served) x.is_text.says)) (x.is_text.says.well_typed, x.is_text.sides))
 
   by_type : (k : Key) (found : Option ServedShape) → slice_get types k.kind ≡ found → OwnSides (is_apart_in found) (state_by found (fin.get objects k))
   by_type k None is = λ m p owns. absurd (true≢false (sym owns ∙ nobody_owns m p))

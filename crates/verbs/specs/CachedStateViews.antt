@@ -1,22 +1,27 @@
--- What is cached of texts: the states that they say.
-use Rattle.std.specs.Prelude.{◌≡◌, ℕ, IfSome, List, Some, slice_get, string_bytes}
+-- What is cached of texts: what they say.
+use Rattle.std.specs.Prelude.{◌≡◌, ℕ, IfSome, List, Option, Some, option_map, slice_get, string_bytes}
 use Rattle.std.specs.List.{All}
 use Rattle.api_types.specs.TypesFile.{ServedShape}
 use Rattle.objects.specs.State.{State}
+use Rattle.objects.specs.SystemMetadata.{System}
 use Rattle.objects.specs.WellTyped.{IsWellTypedState}
-use Rattle.objects.specs.Views.{state_of}
+use Rattle.objects.specs.Views.{state_of, system_of}
 use Rattle.api_request.specs.Calls.{Target, of_objects, of_document}
-use Rattle.verbs.specs.Machine.{decoded_state}
+use Rattle.verbs.specs.Machine.{decoded_state, decoded_system}
 use Rattle.verbs.specs.declared.cached.CachedState.{CachedState}
 use Rattle.verbs.specs.declared.cached.PlannedStates.{PlannedStates}
 use Rattle.verbs.specs.declared.slot.Slot.{Slot}
 
--- the state is the one that the text says of an object of the type
+-- the state is the one that the text says of an object of the type, ..
 abbrev pub IsDecodedFrom : ServedShape → List ℕ → State → Type 0
 IsDecodedFrom t text state = (decoded_state t.shape text ≡ state) × IsWellTypedState t.shape state
 
+-- .. and this is what the system says in it beside the version
+abbrev pub IsSystemFrom : ServedShape → List ℕ → Option System → Type 0
+IsSystemFrom t text system = decoded_system t.shape text ≡ system
+
 abbrev pub IsCoherent : ServedShape → CachedState → Type 0
-IsCoherent t r = IsDecodedFrom t (string_bytes r.text) (state_of r.state)
+IsCoherent t r = IsDecodedFrom t (string_bytes r.text) (state_of r.state) × IsSystemFrom t (string_bytes r.text) (option_map system_of r.system)
 
 -- of the type with this number
 abbrev pub IsCoherentAt : List ServedShape → ℕ → CachedState → Type 0

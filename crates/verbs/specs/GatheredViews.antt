@@ -5,6 +5,7 @@ use Rattle.api_types.specs.Served.{types_view}
 use Rattle.api_types.specs.TypesFile.{ServedShape}
 use Rattle.history.specs.History.{Key, Object, last_revision}
 use Rattle.objects.specs.State.{State}
+use Rattle.objects.specs.SystemMetadata.{System}
 use Rattle.ownership.specs.Carry.{carried_state}
 use Rattle.api_types.specs.declared.fault.TypesFault.{TypesFault}
 use Rattle.api_types.specs.declared.fault.TypesFault.TheVariants as types_fault
@@ -12,7 +13,7 @@ use Rattle.verbs.specs.declared.fault.Fault.TheVariants.{Memory}
 use Rattle.verbs.specs.declared.fault.RetypeFault.{RetypeFault}
 use Rattle.verbs.specs.declared.fault.RetypeFault.TheVariants.{Failed, NotTypes}
 use Rattle.verbs.specs.declared.retyping.Retyper.{Retyper}
-use Rattle.verbs.specs.Machine.{IsTextAt, decoded_state}
+use Rattle.verbs.specs.Machine.{IsTextAt, decoded_state, decoded_system}
 use Rattle.verbs.specs.Retyping.{is_changed, carried_text_at, too_few_revisions, writes_from}
 use Rattle.verbs.specs.Views.{retype_refusal}
 
@@ -23,9 +24,10 @@ old_types r = types_view r.types.old.now
 abbrev pub new_types : Retyper → List ServedShape
 new_types r = types_view r.types.new.now
 
--- an object's state under its new type, if it has both types
-abbrev pub carried_at : List ServedShape → List ServedShape → Key × Object → Option State
-carried_at types next_types e = option_and_then (λ t. option_map (λ u. carried_state t.shape u.shape (decoded_state t.shape e.1.body)) (slice_get next_types e.0.kind)) (slice_get types e.0.kind)
+-- an object's state under its new type, and what the system says of it, if it has both types
+abbrev pub carried_at : List ServedShape → List ServedShape → Key × Object → Option (State × Option System)
+carried_at types next_types e =
+    option_and_then (λ t. option_map (λ u. (carried_state t.shape u.shape (decoded_state t.shape e.1.body), decoded_system t.shape e.1.body)) (slice_get next_types e.0.kind)) (slice_get types e.0.kind)
 
 -- its text stays, or this is the one that it gets
 abbrev pub IsNewText : List ServedShape → List ServedShape → ℕ → Key × Object → Option (List ℕ) → Type 0

@@ -1,8 +1,10 @@
 pub mod PlannerViews
 pub mod FaultViews
 pub mod ExistingViews
+pub mod IsSystem
 pub mod Machine
 pub mod DryRuns
+pub mod Checks
 pub mod Step
 pub mod Watching
 pub mod Retyping

@@ -12,6 +12,7 @@ use Rattle.history.specs.History.{Key, Change, Object, Objects, History, last_re
 use Rattle.history.specs.View.{View, state_in}
 use Rattle.history.specs.Whole.{AreThere, IsWhole}
 use Rattle.objects.specs.State.{State}
+use Rattle.objects.specs.SystemMetadata.{Stamp, System, stamped}
 use Rattle.objects.specs.ObjectText.{Identity}
 use Rattle.objects.specs.Parts.{parts_in}
 use Rattle.schema.specs.ObjectShape.{IsObjectShape}
@@ -19,6 +20,7 @@ use Rattle.objects.specs.ReadBack.{IsObjectText}
 use Rattle.ownership.specs.Sides.{OwnSides}
 use Rattle.names.specs.Names.{is_dns_label, is_dns_subdomain}
 use Rattle.api_validation.specs.Envelope.{api_version_of}
+use Rattle.verbs.specs.IsSystem.{IsSystemOf}
 
 -- ---- what stands
 
@@ -26,7 +28,7 @@ use Rattle.api_validation.specs.Envelope.{api_version_of}
 abbrev pub no_state : State
 no_state = record { content = nothing; owners = fin.empty }
 
-abbrev pub state_or_none : Option (State × ℕ) → State
+abbrev pub state_or_none : Option (State × Stamp) → State
 state_or_none None = no_state
 state_or_none (Some p) = p.0
 
@@ -35,10 +37,22 @@ state_or_none (Some p) = p.0
 unfoldable pub decoded_state : Shape → List ℕ → State
 decoded_state s text = state_or_none (option_and_then (parts_in s) (read text))
 
+-- .. and what the system says of it beside its version, if it says something
+abbrev pub system_or_none : Option (State × Stamp) → Option System
+system_or_none None = None
+system_or_none (Some p) = p.1.system
+
+unfoldable pub decoded_system : Shape → List ℕ → Option System
+decoded_system s text = system_or_none (option_and_then (parts_in s) (read text))
+
 -- what a call starts from: the state of the object that stands, or nothing
 abbrev pub state_of_existing : ServedShape → Option Object → State
 state_of_existing t None = no_state
 state_of_existing t (Some o) = decoded_state t.shape o.body
+
+abbrev pub system_of_existing : ServedShape → Option Object → Option System
+system_of_existing t None = None
+system_of_existing t (Some o) = decoded_system t.shape o.body
 
 abbrev pub state_by : Option ServedShape → Option Object → State
 state_by None existing = no_state
@@ -60,10 +74,13 @@ pub record IsNamed (k : Key) : Type 0 where
   pub name : is_dns_subdomain k.name ≡ true
 
 -- the text is that of an object of the type and the key, at the revision: of a content of the type, with owners of its paths, each of
--- paths that its subresource writes; the key has a namespace and a name that an object may have
+-- paths that its subresource writes; the system says what it may of the type's objects; the key has a namespace and a name that
+-- an object may have
 pub record IsTextOf (t : ServedShape) (k : Key) (revision : ℕ) (text : List ℕ) : Type 0 where
   pub state : State
-  pub says : IsObjectText t.shape (identity_of t k) revision state text
+  pub system : Option System
+  pub says : IsObjectText t.shape (identity_of t k) (stamped revision system) state text
+  pub is_system : IsSystemOf t revision system
   pub sides : OwnSides (is_apart t) state
   pub named : IsNamed k
 
@@ -88,7 +105,7 @@ AreTexts types s = (k : Key) (o : Object) → fin.get s k ≡ Some o → IsTextA
 -- the text that stands, if any, is that of an object of the key and the type
 abbrev pub IsReadable : ServedShape → Key → Option Object → Type 0
 IsReadable t k None = Unit {0}
-IsReadable t k (Some o) = (revision : ℕ) × (state : State) × IsObjectText t.shape (identity_of t k) revision state o.body
+IsReadable t k (Some o) = (stamp : Stamp) × (state : State) × IsObjectText t.shape (identity_of t k) stamp state o.body
 
 -- the text of a change, if it has one, is that of an object of its key and its type, under the schema of its time
 abbrev pub IsOfTypes : List ServedShape → Change → Type 0

@@ -15,15 +15,16 @@ use Rattle.api_types.specs.TypesFile.{ServedShape}
 use Rattle.history.specs.History.{Key, Object, Objects, History, last_revision, current_objects}
 use Rattle.history.specs.Writes.{written_all}
 use Rattle.ownership.specs.Carry.{carried_state}
-use Rattle.verbs.specs.Machine.{decoded_state}
-use Rattle.verbs.specs.Step.{text_at}
+use Rattle.objects.specs.SystemMetadata.{stamped}
+use Rattle.verbs.specs.Machine.{decoded_state, decoded_system}
+use Rattle.verbs.specs.Step.{text_stamped}
 
 -- ---- what changes
 
 -- an object's text under its new type, at a revision: its content is printed under the old shape and read under the new one, of which
--- `typed::carried_is_one` says in the subject's words what it is
+-- `typed::carried_is_one` says in the subject's words what it is; what the system says of it stays
 abbrev pub carried_text : ServedShape → ServedShape → ℕ → Key → Object → List ℕ
-carried_text t u revision k o = text_at u k revision (carried_state t.shape u.shape (decoded_state t.shape o.body))
+carried_text t u revision k o = text_stamped u k (stamped revision (decoded_system t.shape o.body)) (carried_state t.shape u.shape (decoded_state t.shape o.body))
 
 -- by the types that were served and the others
 abbrev pub carried_text_at : List ServedShape → List ServedShape → ℕ → Key → Object → Option (List ℕ)

@@ -1,19 +1,20 @@
-//! What is cached of an object's text: the state that it says. It is kept in the slots of `slot`.
+//! What is cached of an object's text: what it says. It is kept in the slots of `slot`.
 
-ghost use Rattle.std.specs.Prelude.{◌≡◌, IfSome, List, string_bytes};
+ghost use Rattle.std.specs.Prelude.{◌≡◌, IfSome, List, option_map, string_bytes};
 ghost use Rattle.api_types.specs.TypesFile.{ServedShape};
 ghost use Rattle.api_request.specs.Calls.{Target};
-ghost use Rattle.objects.specs.Views.{state_of};
-ghost use Rattle.verbs.specs.CachedStateViews.{AreCoherentFor, IsCoherent, IsCoherentFor, IsDecodedFrom};
+ghost use Rattle.objects.specs.Views.{state_of, system_of};
+ghost use Rattle.verbs.specs.CachedStateViews.{AreCoherentFor, IsCoherent, IsCoherentFor, IsDecodedFrom, IsSystemFrom};
 
 use api_request::Plan;
-use ownership::Owned;
+use ownership::{Owned, System};
 
-/// An object's text, and the state that it says.
+/// An object's text, and what it says: the state, and what the system says beside the version.
 #[derive(Drop)]
 pub struct CachedState {
     pub text: String,
     pub state: Owned,
+    pub system: Option<System>,
 }
 
 /// The plan of a write, and the state that its text says: none where it changes nothing, or deletes.
@@ -45,12 +46,21 @@ impl PlannedStates {
     }
 }
 
-/// The state under the text that says it; nothing if there is no room in memory for the text's copy.
-pub(crate) fn cache_state(text: &String, state: Owned) -> Option<CachedState>
-    ensures { (t : ServedShape) → IsDecodedFrom t (string_bytes text.now) (state_of state) → IfSome result (IsCoherent t) }
+/// What a text says, under the text; nothing if there is no room in memory for the text's copy.
+pub(crate) fn cache_state(
+    text: &String,
+    state: Owned,
+    system: Option<System>,
+) -> Option<CachedState>
+    ensures { (t : ServedShape) → IsDecodedFrom t (string_bytes text.now) (state_of state) → IsSystemFrom t (string_bytes text.now) (option_map system_of system)
+        → IfSome result (IsCoherent t) }
 {
     match text.clone() {
-        Ok(text) => Some(CachedState { text, state }),
+        Ok(text) => Some(CachedState {
+            text,
+            state,
+            system,
+        }),
         Err(_) => None,
     }
 }

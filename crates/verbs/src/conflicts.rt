@@ -65,6 +65,8 @@ fn conflict_refusal(
     Ok(CallRefusal {
         reason: Reason::Conflict,
         message,
+        at: None,
+        about: None,
         causes,
     })
 }

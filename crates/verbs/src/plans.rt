@@ -11,10 +11,10 @@ ghost use Rattle.verbs.specs.ExistingViews.{IsWellDecoded, object_in};
 ghost use Rattle.verbs.specs.Machine.{AreTexts, IsReadable};
 ghost use Rattle.verbs.specs.PlannerViews.{IsSoundPlanner, call_of_entry, type_of};
 ghost use Rattle.verbs.specs.CachedStateViews.{AreCoherentFor, AreCoherentOf};
-ghost use Rattle.api_request.specs.Views.{Returns, call_of, plan_of, scope_seen, target_of};
+ghost use Rattle.api_request.specs.Views.{FailsWith, Returns, call_of, plan_of, scope_seen, target_of};
 ghost use Rattle.verbs.specs.Views.{objects_in};
 ghost use Rattle.verbs.specs.Step.{body_of, create_plan, document_plan, get_plan, key_at, plan_for, planned_over, dispatch_call, dispatch_object, dispatch_scope, dispatch_write};
-ghost use Rattle.api_request.specs.Validated.{Validated, and_then};
+ghost use Rattle.api_request.specs.Validated.{Validated, and_then, detailed};
 ghost use Rattle.verbs.specs.WritePlanViews.{CachesCoherently, plan_in};
 ghost use Rattle.watchline.specs.Watches.{from_view};
 
@@ -56,17 +56,30 @@ fn finish_write(
 }
 
 impl Planner<'_> {
+    /// The plan of a refusal of a call on the object of this name.
+    fn refuse(self, name: &str, call_error: CallError) -> Result<Plan, Fault>
+        ensures planned { (validated : Validated calls.Plan) → FailsWith call_error validated
+            → IfOk result (λ p. plan_of p ≡ plan_for (detailed (type_of self.entry) (Some name.now) validated)) }
+        ensures readable { result ≢ Err Fault.Unreadable }
+    {
+        let call_error = call_error.in_detail(self.alloc, self.served, Some(name));
+        plan_for(self.alloc, Err(call_error))
+    }
+
     /// A get of an object.
     fn plan_get_from(self, store: &mut Store, namespace: &str, name: &str) -> Result<Plan, Fault>
         requires { self.current ≡ store.old.current }
         ensures planned { let c = call_of_entry self.entry in let k = key_at self.entry.kind namespace.now name.now in
-            IfOk result (λ p. plan_of p ≡ plan_for (get_plan (type_of self.entry) store.old.current (fin.get (objects_in store.old) k) k c.query)) }
+            IfOk result (λ p. plan_of p ≡ plan_for (detailed (type_of self.entry) (Some name.now) (get_plan (type_of self.entry) store.old.current (fin.get (objects_in store.old) k) k c.query))) }
         ensures readable { result ≢ Err Fault.Unreadable }
         ensures same { store.new ≡ store.old }
     {
         let key = self.key(namespace, name)?;
         let object = store.get(&key)?;
-        plan_for(self.alloc, self.plan_get(&key, object))
+        match self.plan_get(&key, object) {
+            Ok(plan) => Ok(plan),
+            Err(call_error) => self.refuse(name, call_error),
+        }
     }
 
     /// The checks of a write of one object.
@@ -93,6 +106,27 @@ impl Planner<'_> {
         }
     }
 
+    /// The same; a refusal names the object.
+    fn plan_write_named(
+        self,
+        name: &str,
+        key: Key,
+        write: ObjectWrite,
+        subresource: Subresource,
+        existing: &Existing,
+    ) -> Result<WritePlan, CallError>
+        requires planner { IsSoundPlanner self }
+        requires existing { IsWellDecoded (type_of self) existing.now }
+        ensures plan { let c = call_of_entry self.entry in
+            Returns plan_in result (detailed (type_of self.entry) (Some name.now) (dispatch_write write subresource (type_of self.entry) self.entry.current (object_in existing.now) (key_of key) c.query c.body)) }
+        ensures coherent { IfOk result (CachesCoherently (type_of self.entry)) }
+    {
+        match self.plan_write(key, write, subresource, existing) {
+            Ok(written) => Ok(written),
+            Err(call_error) => Err(call_error.in_detail(self.alloc, self.served, Some(name))),
+        }
+    }
+
     /// A write of an object: it begins from the state that is cached of the text that stands, or else from that text.
     fn plan_write_from(
         self,
@@ -107,7 +141,7 @@ impl Planner<'_> {
         requires current { self.current ≡ store.old.current }
         requires coherent { AreCoherentOf (type_of self) states.old }
         ensures planned { let c = call_of_entry self.entry in let k = key_at self.entry.kind namespace.now name.now in
-            IfOk result (λ p. plan_of p ≡ plan_for (dispatch_write write subresource (type_of self.entry) store.old.current (fin.get (objects_in store.old) k) k c.query c.body)) }
+            IfOk result (λ p. plan_of p ≡ plan_for (detailed (type_of self.entry) (Some name.now) (dispatch_write write subresource (type_of self.entry) store.old.current (fin.get (objects_in store.old) k) k c.query c.body))) }
         ensures readable { let k = key_at self.entry.kind namespace.now name.now in
             IsReadable (type_of self.entry) k (fin.get (objects_in store.old) k) → result ≢ Err Fault.Unreadable }
         ensures coherent { AreCoherentOf (type_of self.entry) states.new }
@@ -117,7 +151,7 @@ impl Planner<'_> {
         let object = store.get(&key)?;
         let cached = states.standing.take();
         let existing = existing_at(self.alloc, self.served, &key, object, cached)?;
-        let written = self.plan_write(key, write, subresource, &existing);
+        let written = self.plan_write_named(name, key, write, subresource, &existing);
         states.standing = existing.into_cached();
         finish_write(self.alloc, written, states)
     }
@@ -161,7 +195,7 @@ impl Planner<'_> {
         requires current { self.current ≡ store.old.current }
         requires coherent { AreCoherentOf (type_of self) states.old }
         ensures planned { let c = call_of_entry self.entry in let k = key_at self.entry.kind namespace.now name.now in
-            IfOk result (λ p. plan_of p ≡ plan_for (dispatch_object verb subresource (type_of self.entry) store.old.current (fin.get (objects_in store.old) k) k c.query c.body)) }
+            IfOk result (λ p. plan_of p ≡ plan_for (detailed (type_of self.entry) (Some name.now) (dispatch_object verb subresource (type_of self.entry) store.old.current (fin.get (objects_in store.old) k) k c.query c.body))) }
         ensures readable { let k = key_at self.entry.kind namespace.now name.now in
             IsReadable (type_of self.entry) k (fin.get (objects_in store.old) k) → result ≢ Err Fault.Unreadable }
         ensures coherent { AreCoherentOf (type_of self.entry) states.new }
@@ -169,7 +203,10 @@ impl Planner<'_> {
     {
         let write = match verb {
             Verb::Get => return self.plan_get_from(store, namespace, name),
-            Verb::Create => return refused_for(self.alloc, Reason::MethodNotAllowed, NOT_SERVED),
+            Verb::Create => {
+                let reason = Reason::MethodNotAllowed;
+                return self.refuse(name, CallError::refused_for(self.alloc, reason, NOT_SERVED));
+            }
             Verb::Update => ObjectWrite::Update,
             Verb::Apply => ObjectWrite::Apply,
             Verb::Delete => ObjectWrite::Delete,

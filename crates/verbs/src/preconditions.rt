@@ -19,7 +19,7 @@ use crate::planner::Planner;
 use api_request::{CallError, Reason};
 use api_validation::api_version_of;
 use history::{Key, LAST_REVISION, Object};
-use ownership::Owned;
+use ownership::{Owned, Stamp};
 use revstore::REVISIONS_USED_UP;
 use std::alloc::{AllocError, Global};
 
@@ -72,7 +72,8 @@ impl Planner<'_> {
     {
         let api_version = api_version_of(self.alloc, self.served)?;
         let identity = identity_of(self.served, key, api_version.as_str());
-        owned.to_object_with_labels(self.alloc, &self.served.schema, identity, revision)
+        let stamp = Stamp::plain(revision);
+        owned.to_object_with_labels(self.alloc, &self.served.schema, identity, stamp)
     }
 
     /// Refuses a change where no revision is left for it.

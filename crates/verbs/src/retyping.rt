@@ -12,7 +12,7 @@ ghost use Rattle.api_types.specs.Discovered.{declared_after};
 ghost use Rattle.api_types.specs.TypesFile.{ServedShape};
 ghost use Rattle.typed.specs.Fitting.{IsContent};
 ghost use Rattle.objects.specs.WellTyped.{IsWellTypedState};
-ghost use Rattle.objects.specs.Views.{state_of};
+ghost use Rattle.objects.specs.Views.{stamp_of, state_of, system_of};
 ghost use Rattle.history.specs.History.{History};
 ghost use Rattle.history.specs.Page.{listed};
 ghost use Rattle.history.specs.Read.{entry_of, key_of, write_of};
@@ -21,7 +21,7 @@ ghost use Rattle.verbs.specs.GatheredViews.{AreReadable, AreWritable, IsReadable
 ghost use Rattle.verbs.specs.Machine.{AreTexts, IsMachine};
 ghost use Rattle.verbs.specs.Retyping.{if_compatible, retyping, retyping_writes};
 ghost use Rattle.verbs.specs.Views.{IsFileFault, objects_in, retype_refusal, reported_of_file};
-ghost use Rattle.verbs.specs.Step.{text_at};
+ghost use Rattle.verbs.specs.Step.{text_stamped};
 
 use crate::catalog::Catalog;
 use crate::existing::read_stored;
@@ -30,7 +30,7 @@ use crate::identity::identity_of;
 use api_types::{Retyping, Served, Types, TypesFault};
 use api_validation::api_version_of;
 use history::{Entry, Key, LAST_REVISION, Write};
-use ownership::{Carry, Owned};
+use ownership::{Carry, Owned, Stamp, Stored};
 use revstore::{ListFault, Store};
 use serde_json::Value;
 use std::alloc::{AllocError, Global};
@@ -43,21 +43,21 @@ pub(crate) struct Retyper<'a> {
     pub(crate) current: u64,
 }
 
-/// An object's text under its type.
+/// An object's text under its type, where the system says this of it.
 fn printed(
     alloc: Global,
     served: &Served,
     key: &Key,
-    revision: u64,
+    stamp: Stamp<'_>,
     owned: &Owned,
 ) -> Result<String, AllocError>
     requires shaped { IsObjectShape (types.served served.now).shape }
     requires content { IsContent (types.served served.now).shape owned.now.tree }
-    ensures { IfOk result (λ s. string_bytes s ≡ text_at (types.served served.now) (key_of key.now) revision (state_of owned.now)) }
+    ensures { IfOk result (λ s. string_bytes s ≡ text_stamped (types.served served.now) (key_of key.now) (stamp_of stamp.entry) (state_of owned.now)) }
 {
     let api_version = api_version_of(alloc, served)?;
     let identity = identity_of(served, key, api_version.as_str());
-    owned.to_object(alloc, &served.schema, identity, revision)
+    owned.to_object(alloc, &served.schema, identity, stamp)
 }
 
 /// The objects of a type, as they stand now.
@@ -76,10 +76,10 @@ fn objects_of(store: &mut Store, kind: u32) -> Result<Vec<Entry>, Fault>
 }
 
 impl Retyper<'_> {
-    /// The state of an object under its new type.
-    fn carried(self, entry: &Entry) -> Result<Owned, Fault>
-        ensures state { IfOk result (λ o. carried_at (old_types self.entry) (new_types self.entry) (entry_of entry.now) ≡ Some (state_of o)) }
-        ensures well_typed { IfOk result (λ o. (u : ServedShape) → slice_get (new_types self.entry) entry.now.key.kind ≡ Some u → IsWellTypedState u.shape (state_of o)) }
+    /// An object's state under its new type, and what the system says of it.
+    fn carried(self, entry: &Entry) -> Result<Stored, Fault>
+        ensures state { IfOk result (λ o. carried_at (old_types self.entry) (new_types self.entry) (entry_of entry.now) ≡ Some (state_of o.owned, option_map system_of o.system)) }
+        ensures well_typed { IfOk result (λ o. (u : ServedShape) → slice_get (new_types self.entry) entry.now.key.kind ≡ Some u → IsWellTypedState u.shape (state_of o.owned)) }
         ensures readable { IsReadableEntry (old_types self.entry) (entry_of entry.now) → result ≢ Err Fault.Unreadable }
     {
         let kind = entry.key.kind;
@@ -89,8 +89,18 @@ impl Retyper<'_> {
         let Some(schemas) = self.types.of_type(kind) else {
             return Err(Fault::Unreadable);
         };
-        let state = read_stored(self.alloc, served, &entry.key, &entry.object)?;
-        Ok(schemas.carry(self.alloc, &state)?)
+        let stored = read_stored(self.alloc, served, &entry.key, &entry.object)?;
+        let owned = schemas.carry(self.alloc, &stored.owned)?;
+        let Stored {
+            version,
+            system,
+            ..
+        } = stored;
+        Ok(Stored {
+            owned,
+            version,
+            system,
+        })
     }
 
     /// The text of an object under its new type at this revision, if it says another than the text that stands.
@@ -98,16 +108,24 @@ impl Retyper<'_> {
         ensures text { IfOk result (λ o. IsNewText (old_types self.entry) (new_types self.entry) revision (entry_of entry.now) (option_map string_bytes o)) }
         ensures readable { IsReadableEntry (old_types self.entry) (entry_of entry.now) → result ≢ Err Fault.Unreadable }
     {
-        let state = self.carried(entry)?;
+        let Stored { owned, system, .. } = self.carried(entry)?;
         let Some(served) = self.types.new.get(entry.key.kind) else {
             unreachable!()
         };
         let key = &entry.key;
-        let text = printed(self.alloc, served, key, entry.object.revision, &state)?;
+        let stamp = Stamp {
+            version: entry.object.revision,
+            system: system.as_ref(),
+        };
+        let text = printed(self.alloc, served, key, stamp, &owned)?;
         if text == entry.object.body {
             return Ok(None);
         }
-        Ok(Some(printed(self.alloc, served, key, revision, &state)?))
+        let stamp = Stamp {
+            version: revision,
+            system: system.as_ref(),
+        };
+        Ok(Some(printed(self.alloc, served, key, stamp, &owned)?))
     }
 
     /// Adds the write of an object, if its text changes: it gets the revision after those of the other writes.

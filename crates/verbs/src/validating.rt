@@ -4,7 +4,7 @@
 //! `presence`, `conflicts` and `preconditions` (version, revisions). A list or a watch checks its parameters, then the
 //! revision, in `listing`.
 
-ghost use Rattle.std.specs.Prelude.{◌≡◌, ◌<◌, ◌≤◌, IfOk, OnOk, codes, option_map, string_bytes};
+ghost use Rattle.std.specs.Prelude.{◌≡◌, ◌<◌, ◌≤◌, IfOk, None, OnOk, codes, option_map, string_bytes};
 ghost use Rattle.serde_json.specs.Data.{Data};
 ghost use Rattle.serde_json.specs.View.{view};
 ghost use Rattle.serde_json.specs.Written.{compact_text};
@@ -22,7 +22,7 @@ ghost use Rattle.verbs.specs.ExistingViews.{IsWellDecoded, IsDecoded, object_in}
 ghost use Rattle.verbs.specs.Machine.{decoded_state};
 ghost use Rattle.api_validation.specs.Naming.{metadata_object};
 ghost use Rattle.verbs.specs.PlannerViews.{IsSoundPlanner, call_of_entry, type_of};
-ghost use Rattle.verbs.specs.CachedStateViews.{IsDecodedFrom};
+ghost use Rattle.verbs.specs.CachedStateViews.{IsDecodedFrom, IsSystemFrom};
 ghost use Rattle.api_request.specs.Views.{Returns, plan_of};
 ghost use Rattle.api_validation.specs.Views.{expected_of};
 ghost use Rattle.verbs.specs.Views.{creation_seen, intent_seen, object_of};
@@ -151,6 +151,7 @@ impl<'a> Planner<'a> {
         requires well_typed { IsWellTypedState (type_of self).shape (state_of owned.now) }
         ensures plan { Returns plan_of result (plan_put (type_of self.entry) self.entry.current (key_of key) status (state_of owned.now)) }
         ensures says { IfOk result (λ p. IsDecodedFrom (type_of self.entry) (string_bytes p.answer.body) (state_of owned.now)) }
+        ensures system { IfOk result (λ p. IsSystemFrom (type_of self.entry) (string_bytes p.answer.body) None) }
     {
         let (text, labels) = self.printed(&key, self.current + 1, owned)?;
         self.plan_put_text(key, status, text, labels)
@@ -164,7 +165,7 @@ impl<'a> Planner<'a> {
         ensures coherent { IfOk result (CachesCoherently (type_of self.entry)) }
     {
         let plan = self.plan_put(key, status, &owned)?;
-        let cached = cache_state(&plan.answer.body, owned);
+        let cached = cache_state(&plan.answer.body, owned, None);
         Ok(WritePlan { plan, cached })
     }
 

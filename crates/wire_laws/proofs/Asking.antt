@@ -39,7 +39,7 @@ media_checked method request_target media bytes needs = go (may_have_body method
 -- by its parts
 abbrev asked_in : List ServedShape → List ℕ → List ℕ → Option (List ℕ) → List ℕ → Decision (Option Data) → CallDecision
 asked_in types method path media query body =
-    and_then (decided_by (admitted types (method_named method) path media)) (λ target. and_then body (λ value. accepted (record { target = target; query = query; body = value })))
+    and_then (decided_by (admitted types (method_named method) path media)) (λ target. and_then body (λ value. accepted (record { target = target; query = query; body = value; agent = None; ticked = 0 })))
 
 pub request_asks : (types : List ServedShape) (method path query media bytes : List ℕ) → list_any is_question path ≡ false → needs_body method ≡ true → length bytes ≤ max_body
     → IsPrinted method (path ++ 63 ∷ query) (Some (media, bytes)) → Asks types (request method (path ++ 63 ∷ query) (Some (media, bytes))) (asked_with types method path query media bytes)

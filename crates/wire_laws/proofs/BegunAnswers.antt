@@ -1,7 +1,7 @@
 -- What an event makes of a connection that doesn't watch: it waits, or has its reply and has ended.
 use Rattle.std.proofs.Common.{◌≡◌, ℕ, Bool, true, false, cond, List, ◌++◌, Option, Some, None, ap, subst, ◌∙◌}
 use Rattle.std.specs.FinMap as fin
-use Rattle.api_request.specs.Calls.{Answer, Call, Denied}
+use Rattle.api_request.specs.Calls.{Answer, Call, Denied, at_tick}
 use Rattle.verbs.specs.Step.{planned}
 use Rattle.answers.specs.WatchFrom.{WatchFrom}
 use Rattle.requests.specs.Asks.{Asks, CallDecision}
@@ -26,10 +26,10 @@ came s t id bytes prefix c asked steps got represents asks =
     ∙ put_there s.connections id (connection_after s.types s.machine s.last_tick c (prefix ++ bytes) asked)
 
 pub answers : (s t : State) (id : ℕ) (bytes prefix : List ℕ) (c : Connection) (call : Call) → Steps s (comes id bytes) t → fin.get s.connections id ≡ Some c → c.phase ≡ waiting prefix
-    → Asks s.types (prefix ++ bytes) (accepted call) → (planned s.types s.machine call).answer.watch ≡ None
-    → fin.get t.connections id ≡ Some (with_written c (answer_reply (planned s.types s.machine call).answer) ended)
+    → Asks s.types (prefix ++ bytes) (accepted call) → (planned s.types s.machine (at_tick s.last_tick call)).answer.watch ≡ None
+    → fin.get t.connections id ≡ Some (with_written c (answer_reply (planned s.types s.machine (at_tick s.last_tick call)).answer) ended)
 answers s t id bytes prefix c call steps got represents asks none =
-    let answer : Answer = (planned s.types s.machine call).answer in
+    let answer : Answer = (planned s.types s.machine (at_tick s.last_tick call)).answer in
     came s t id bytes prefix c (accepted call) steps got represents asks
     ∙ ap (λ (o : Option WatchFrom). Some (with_written c (answer_bytes answer o) (answer_phase s.last_tick o))) none
 

@@ -7,6 +7,7 @@ use Rattle.names.specs.Names.{is_dns_label, is_dns_subdomain}
 use Rattle.history.specs.History.{History, IsHistory, Key, Object, Objects, current_objects, state_at}
 use Rattle.history.proofs.Wholes.{whole_is}
 use Rattle.objects.specs.ReadBack.{IsObjectText, max_version}
+use Rattle.objects.specs.SystemMetadata.{stamped}
 use Rattle.objects.proofs.Taken.{same_some}
 use Rattle.params.specs.Values.{Values, Watch}
 use Rattle.params.specs.declared.params.Asked.TheVariants as asked
@@ -22,7 +23,7 @@ use Rattle.watchline.specs.Opening.{from_parts, initial_in, opened_by, starts}
 use Rattle.watchline.specs.Watches.{from_history}
 use Rattle.line_laws.specs.Listed.{AreKept, IsKept, IsReadAsPage, IsWanted}
 use Rattle.api_request.specs.declared.verb.Verb.TheVariants.{Get}
-use Rattle.api_request.specs.Calls.{Answer, Call, Plan, Target, of_objects, collection_in, type_at}
+use Rattle.api_request.specs.Calls.{Answer, Call, Plan, Target, at_tick, of_objects, collection_in, type_at}
 use Rattle.verbs.specs.Machine.{IsMachine, IsSomeTextAt, identity_of}
 use Rattle.api_validation.specs.Parameters.{parameters_validated}
 use Rattle.api_validation.proofs.Readings.{words_are_read_on_each}
@@ -48,8 +49,9 @@ text_kept types t kind namespace k o served same x =
     record {
       shape = x.shape;
       shaped = x.shaped;
+      system = x.is_text.system;
       state = x.is_text.state;
-      says = subst (λ (u : ServedShape). IsObjectText x.shape (identity_of u k) o.revision x.is_text.state o.body) own x.is_text.says;
+      says = subst (λ (u : ServedShape). IsObjectText x.shape (identity_of u k) (stamped o.revision x.is_text.system) x.is_text.state o.body) own x.is_text.says;
       has_namespace = no_label k.namespace x.is_text.named.namespace;
       has_name = no_subdomain k.name x.is_text.named.name;
     }
@@ -90,6 +92,16 @@ module _ (types : List ServedShape) (m : History) (call : Call) (t : ServedShape
       ap (λ (j : Validated Plan). run_by (is_dry_run (type_at types call.target) call) (current_objects m) (plan_for j)) validated_is
       ∙ answered_still (is_dry_run (type_at types call.target) call) (current_objects m) (shown_by (from_history m) of values values.watch)
       ∙ ap (λ o. plan_for (list_answered (shown_by (from_history m) of values o))) is
+
+-- ---- after any tick they ask the same
+
+pub lists_at : {types : List ServedShape} {call : Call} {t : ServedShape} {kind : ℕ} {namespace : Option (List ℕ)} {values : Values} (ms : ℕ)
+    → IsListing types call t kind namespace values → IsListing types (at_tick ms call) t kind namespace values
+lists_at ms is = record { served = is.served; gets = is.gets; says = is.says; unwatched = is.unwatched }
+
+pub watches_at : {types : List ServedShape} {call : Call} {t : ServedShape} {kind : ℕ} {namespace : Option (List ℕ)} {values : Values} {watch : Watch} {revision : ℕ} (ms : ℕ)
+    → IsWatching types call t kind namespace values watch revision → IsWatching types (at_tick ms call) t kind namespace values watch revision
+watches_at ms is = record { served = is.served; gets = is.gets; says = is.says; watches = is.watches; after = is.after }
 
 -- ---- of a list
 

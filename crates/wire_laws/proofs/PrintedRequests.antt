@@ -139,7 +139,7 @@ validated_so method request_target (Some (media, bytes)) rest path is =
     let said : length_said (length_in (trim_ows (32 ∷ decimal (length bytes)))) ≡ number (length bytes) =
     ap (λ (value : List ℕ). length_said (length_in value)) (trimmed (length bytes) is.2) ∙ ap length_said (decimal_read (length bytes) is.2) in
     passed (starts_with nat_eq request_target (codes "/")) _ path
-    ∙ ap₂ (λ (m : List ℕ) (l : Length). accepted (record { method = method; request_target = request_target; media = Some m; transfer_encoded = false; length = l }, rest)) is.1 said
+    ∙ ap₂ (λ (m : List ℕ) (l : Length). accepted (record { method = method; request_target = request_target; media = Some m; agent = None; transfer_encoded = false; length = l }, rest)) is.1 said
 
 ends_so : (method request_target : List ℕ) (body : Option (List ℕ × List ℕ)) → IsPrinted method request_target body
     → head_end (take max_head (request method request_target body)) ≡ Some (length (print_request (head_of method request_target body)))

@@ -8,15 +8,16 @@ use Rattle.api_types.specs.TypesFile.{ServedShape}
 use Rattle.history.specs.History.{Change, History, Key, Object, object_by}
 use Rattle.history.specs.Seen.{SeenChange, SeenKind}
 use Rattle.objects.specs.State.{State}
+use Rattle.objects.specs.SystemMetadata.{stamped}
 use Rattle.objects.specs.ObjectText.{Identity, object_value}
 use Rattle.watchline.specs.declared.event.EventType.{EventType}
 use Rattle.watchline.specs.declared.event.EventType.TheVariants as event
 use Rattle.watchline.specs.Lines.{bookmark_value, error_line, expired_message, expired_value, line, line_of, text_shown, type_of}
 use Rattle.watchline.specs.Watches.{Cursor, bookmarked, coming, expiring, from_history, is_bookmark_due, sending}
-use Rattle.line_laws.specs.Shown.{shown, version_shown}
+use Rattle.line_laws.specs.Shown.{shown, stamp_shown}
 use Rattle.line_laws.proofs.Feeds.{text_has_none}
 use Rattle.line_laws.proofs.Renumbered.{has_room}
-use Rattle.line_laws.proofs.Said.{bookmark_fits, expired_fits, shown_text}
+use Rattle.line_laws.proofs.Said.{bookmark_fits, expired_fits, shown_counted, shown_text}
 use Rattle.line_laws.proofs.Sent.{marked_line as with_mark, unmarked}
 use Rattle.line_laws.proofs.SeenBodies.{AllSeen, Leaves, Stays, all_coming, all_taken}
 use Rattle.api_validation.specs.Envelope.{api_version_of}
@@ -56,10 +57,11 @@ coming_sent types m w is = all_coming (IsSent types) (λ r. Unit {0}) (sent_stay
 pub plain_text : (types : List ServedShape) (o : Object) → IsSent types o → (kind : SeenKind) → HasNoFeed (text_shown kind o)
 plain_text types o (k, r, text) kind =
     let of : Identity = identity_of text.t k in
-    let version = version_shown kind r o.revision in
+    let stood = stamped r text.is_text.system in
+    let stamp = stamp_shown kind stood o.revision in
     let state : State = text.is_text.state in
-    ap (list_any (λ b. b == 10)) (shown_text kind text.shape of r state o text.shaped text.is_text.says)
-    ∙ text_has_none (object_value text.shape of version state) (has_room text.shape of version state text.shaped.1 text.is_text.says.well_typed.0).encodable
+    ap (list_any (λ b. b == 10)) (shown_text kind text.shape of stood state o text.shaped text.is_text.says)
+    ∙ text_has_none (object_value text.shape of stamp state) (has_room text.shape of stamp state text.shaped.1 text.is_text.says.well_typed.0 (shown_counted kind stood o.revision text.is_text.says.counted)).encodable
 
 sent_lines : (types : List ServedShape) (xs : List SeenChange) → AllSeen (IsSent types) xs → AreLines (map line_of xs)
 sent_lines types [] sent = no_lines

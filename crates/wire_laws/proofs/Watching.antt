@@ -2,7 +2,7 @@
 use Rattle.std.proofs.Common.{◌≡◌, ℕ, Bool, false, cond, List, ◌++◌, Option, Some, None, ap, ap₂, ◌∙◌}
 use Rattle.std.specs.Prelude.{◌==◌, is_some, nat_lt, option_map}
 use Rattle.std.specs.FinMap as fin
-use Rattle.api_request.specs.Calls.{Answer, Call}
+use Rattle.api_request.specs.Calls.{Answer, Call, at_tick}
 use Rattle.verbs.specs.Step.{planned}
 use Rattle.answers.specs.WatchFrom.{WatchFrom}
 use Rattle.requests.specs.Asks.{Asks}
@@ -17,10 +17,10 @@ use Rattle.httpedge.proofs.Connected.{got_each, put_there}
 use Rattle.wire_laws.proofs.BegunAnswers.{came}
 
 pub begins : (s t : State) (id : ℕ) (bytes prefix : List ℕ) (c : Connection) (call : Call) (from : WatchFrom) → Steps s (comes id bytes) t → fin.get s.connections id ≡ Some c → c.phase ≡ waiting prefix
-    → Asks s.types (prefix ++ bytes) (accepted call) → (planned s.types s.machine call).answer.watch ≡ Some from
-    → fin.get t.connections id ≡ Some (with_written c (watch_head (planned s.types s.machine call).answer.status) (watching (begun_at s.last_tick from)))
+    → Asks s.types (prefix ++ bytes) (accepted call) → (planned s.types s.machine (at_tick s.last_tick call)).answer.watch ≡ Some from
+    → fin.get t.connections id ≡ Some (with_written c (watch_head (planned s.types s.machine (at_tick s.last_tick call)).answer.status) (watching (begun_at s.last_tick from)))
 begins s t id bytes prefix c call from steps got represents asks opens =
-    let answer : Answer = (planned s.types s.machine call).answer in
+    let answer : Answer = (planned s.types s.machine (at_tick s.last_tick call)).answer in
     came s t id bytes prefix c (accepted call) steps got represents asks
     ∙ ap (λ (o : Option WatchFrom). Some (with_written c (answer_bytes answer o) (answer_phase s.last_tick o))) opens
 

@@ -287,6 +287,10 @@ checked : {X : Type 0} (x : Validated X) (f : X → Validated Plan) → ((a : X)
 checked (Ok a) f is = is a
 checked (Err d) f is = denied d
 
+detailed_fine : (t : ServedShape) (name : Option (List ℕ)) (x : Validated Plan) → IsFine x → IsFine (validated.detailed t name x)
+detailed_fine t name (Ok p) is = is
+detailed_fine t name (Err d) is = denied _
+
 if_fine : (b : Bool) (x y : Validated Plan) → IsFine x → IsFine y → IsFine (if b then x else y)
 if_fine true x y is other = is
 if_fine false x y is other = other
@@ -429,7 +433,7 @@ by_fine of_all v t kind s call = all_fine v t kind s call
 by_fine (of_namespace namespace) v t kind s call = collection_fine v t kind s call namespace
 by_fine (of_object namespace name by) v t kind s call =
     let k = step.key_at kind namespace name in
-    object_fine v by t s.current (step.object_at s k) k call.query call.body
+    detailed_fine t (Some name) (step.dispatch_object v by t s.current (step.object_at s k) k call.query call.body) (object_fine v by t s.current (step.object_at s k) k call.query call.body)
 
 type_fine : (found : Option ServedShape) (kind : ℕ) (scope : Scope) (v : Verb) (s : HistoryWindow) (call : Call) → IsFine (step.dispatch_type found kind scope v s call)
 type_fine None kind scope v s call = denied _

@@ -49,18 +49,18 @@ length_of (Some (media, bytes)) = number (length bytes)
 
 -- what the server takes from the head of such a request
 abbrev pub said_of : List ℕ → List ℕ → Option (List ℕ × List ℕ) → Request
-said_of method request_target body = record { method = method; request_target = request_target; media = media_of body; transfer_encoded = false; length = length_of body }
+said_of method request_target body = record { method = method; request_target = request_target; media = media_of body; agent = None; transfer_encoded = false; length = length_of body }
 
 -- what such a request asks by these types, its target a path and a query: its route, its method and its media type are checked, then its body
 abbrev pub asked_with : List ServedShape → List ℕ → List ℕ → List ℕ → List ℕ → List ℕ → CallDecision
 asked_with types method path query media bytes =
     and_then (decided_by (admitted types (method_named method) path (Some media)))
-    (λ target. and_then (some_json (json_in bytes)) (λ body. accepted (record { target = target; query = query; body = body })))
+    (λ target. and_then (some_json (json_in bytes)) (λ body. accepted (record { target = target; query = query; body = body; agent = None; ticked = 0 })))
 
 -- the same of a request without a body
 abbrev pub asked_without : List ServedShape → List ℕ → List ℕ → List ℕ → CallDecision
 asked_without types method path query =
-    and_then (decided_by (admitted types (method_named method) path None)) (λ target. accepted (record { target = target; query = query; body = None }))
+    and_then (decided_by (admitted types (method_named method) path None)) (λ target. accepted (record { target = target; query = query; body = None; agent = None; ticked = 0 }))
 
 -- a question mark, which ends the path
 abbrev pub is_question : ℕ → Bool

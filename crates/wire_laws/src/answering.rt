@@ -2,7 +2,7 @@
 
 ghost use Rattle.std.specs.Prelude.{◌≡◌, ◌++◌, ℕ, List, None, Some, true, false};
 ghost use Rattle.std.specs.FinMap as fin;
-ghost use Rattle.api_request.specs.Calls.{Call, Denied};
+ghost use Rattle.api_request.specs.Calls.{Call, Denied, at_tick};
 ghost use Rattle.verbs.specs.Step.{planned};
 ghost use Rattle.requests.specs.Asks.{Asks};
 ghost use Rattle.requests.specs.Decision.{accepted, refused, undecided};
@@ -22,8 +22,8 @@ pub fn connections_begin()
 /// head of a watch (`watches_begin`).
 pub fn replies_are_written()
     ensures answers { (s t : State) (id : ℕ) (bytes prefix : List ℕ) (c : Connection) (call : Call) → Steps s (comes id bytes) t → fin.get s.connections id ≡ Some c → c.phase ≡ waiting prefix
-        → Asks s.types (prefix ++ bytes) (accepted call) → (planned s.types s.machine call).answer.watch ≡ None
-        → fin.get t.connections id ≡ Some (with_written c (answer_reply (planned s.types s.machine call).answer) ended) }
+        → Asks s.types (prefix ++ bytes) (accepted call) → (planned s.types s.machine (at_tick s.last_tick call)).answer.watch ≡ None
+        → fin.get t.connections id ≡ Some (with_written c (answer_reply (planned s.types s.machine (at_tick s.last_tick call)).answer) ended) }
     ensures refusals { (s t : State) (id : ℕ) (bytes prefix : List ℕ) (c : Connection) (d : Denied) → Steps s (comes id bytes) t → fin.get s.connections id ≡ Some c → c.phase ≡ waiting prefix
         → Asks s.types (prefix ++ bytes) (refused d) → fin.get t.connections id ≡ Some (with_written c (refusal_reply d) ended) }
     ensures waits { (s t : State) (id : ℕ) (bytes prefix : List ℕ) (c : Connection) → Steps s (comes id bytes) t → fin.get s.connections id ≡ Some c → c.phase ≡ waiting prefix

@@ -4,7 +4,7 @@ ghost use Rattle.std.specs.Prelude.{◌+◌, ◌<◌, length, ◌≡◌, ◌++�
 ghost use Rattle.std.specs.FinMap as fin;
 ghost use Rattle.std.specs.List.{All, flat_map};
 ghost use Rattle.http.specs.StatusCode.{IsStatusCode};
-ghost use Rattle.api_request.specs.Calls.{Call};
+ghost use Rattle.api_request.specs.Calls.{Call, at_tick};
 ghost use Rattle.verbs.specs.Step.{planned};
 ghost use Rattle.watchline.specs.Lines.{line};
 ghost use Rattle.answers.specs.WatchFrom.{WatchFrom};
@@ -56,8 +56,8 @@ pub fn turns_are_read()
 /// The hub answers a call that opens a watch by the head of a watch, and the connection watches from then on.
 pub fn watches_begin()
     ensures { (s t : State) (id : ℕ) (bytes prefix : List ℕ) (c : Connection) (call : Call) (from : WatchFrom) → Steps s (comes id bytes) t → fin.get s.connections id ≡ Some c → c.phase ≡ waiting prefix
-        → Asks s.types (prefix ++ bytes) (accepted call) → (planned s.types s.machine call).answer.watch ≡ Some from
-        → fin.get t.connections id ≡ Some (with_written c (watch_head (planned s.types s.machine call).answer.status) (watching (begun_at s.last_tick from))) }
+        → Asks s.types (prefix ++ bytes) (accepted call) → (planned s.types s.machine (at_tick s.last_tick call)).answer.watch ≡ Some from
+        → fin.get t.connections id ≡ Some (with_written c (watch_head (planned s.types s.machine (at_tick s.last_tick call)).answer.status) (watching (begun_at s.last_tick from))) }
 {}
 
 /// A watch writes the chunks of its turn at a pump and at a tick, and then stands where the turn leads.

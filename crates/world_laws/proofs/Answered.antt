@@ -4,7 +4,7 @@ use Rattle.std.proofs.lemmas.List.Elements.{All-nil}
 use Rattle.std.specs.Prelude.{option_map}
 use Rattle.api_types.specs.TypesFile.{ServedShape}
 use Rattle.history.specs.History.{History, last_revision}
-use Rattle.api_request.specs.Calls.{Answer, Call}
+use Rattle.api_request.specs.Calls.{Answer, Call, at_tick}
 use Rattle.verbs.specs.Machine.{IsMachine}
 use Rattle.api_request.specs.Reasons.{code_of}
 use Rattle.verbs.specs.Step.{planned}
@@ -29,6 +29,7 @@ use Rattle.world_laws.proofs.RunInvariant.{ReadInvariant}
 use Rattle.world_laws.proofs.Mirror.{server_of}
 use Rattle.world_laws.proofs.Pages.{first_page_comes, next_page_comes}
 use Rattle.world_laws.proofs.Passes.{AsksFor, IsListCall, IsNextCall, IsWatchCall, WatchOpens, WatchRefused, request_with}
+use Rattle.wire_laws.proofs.Listings.{lists_at, watches_at}
 use Rattle.world_laws.proofs.Laws.{Laws}
 use Rattle.world_laws.proofs.Sending.{refusal_comes}
 use Rattle.world_laws.proofs.Turns.{watch_begins}
@@ -72,14 +73,15 @@ module _ (laws : Laws) (types : List ServedShape) (task : Task) (h : History) (m
   abbrev AnswersBy : client.SyncPhase → Option Cache → Answer → Option WatchFrom → Type 0
   AnswersBy asks cache a watch = IsAnswered task h m asks cache c unsent (with_written conn (answer_bytes a watch) (answer_phase last_tick watch))
 
-  plain_answer : (asks : client.SyncPhase) (cache : Option Cache) (call : Call) (items : List ReplyItem) (to : ℕ) → (planned types h call).answer.watch ≡ None → Items (answer_bytes (planned types h call).answer None) items
+  plain_answer : (asks : client.SyncPhase) (cache : Option Cache) (call : Call) (items : List ReplyItem) (to : ℕ) → (planned types h (at_tick last_tick call)).answer.watch ≡ None
+      → Items (answer_bytes (planned types h (at_tick last_tick call)).answer None) items
       → IsReplyTo (server_of task h) (wanted_by task) m asks cache items to → Answers asks cache (accepted call)
   plain_answer asks cache call items to unwatched read comes =
-      subst (AnswersBy asks cache (planned types h call).answer) (sym unwatched) (record { items = items; to = to; read = first_bytes _ items read; comes = comes; represents = tt })
+      subst (AnswersBy asks cache (planned types h (at_tick last_tick call)).answer) (sym unwatched) (record { items = items; to = to; read = first_bytes _ items read; comes = comes; represents = tt })
 
-  watch_answer : (call : Call) (now : Cache) → c.sync ≡ streaming → now.revision ≤ h.current → WatchOpens types task_now h now.revision call → Answers streaming (Some now) (accepted call)
+  watch_answer : (call : Call) (now : Cache) → c.sync ≡ streaming → now.revision ≤ h.current → WatchOpens types task_now h now.revision (at_tick last_tick call) → Answers streaming (Some now) (accepted call)
   watch_answer call now asks come opens =
-      let a : Answer = (planned types h call).answer in
+      let a : Answer = (planned types h (at_tick last_tick call)).answer in
       let r : ℕ = now.revision in
       let is_head : conn.written ++ watch_head a.status ≡ watch_head 200 = ap (λ (l : List ℕ). l ++ watch_head a.status) unwritten ∙ ap watch_head opens.status in
       let is_read : Items (watch_head 200) (head 200 ∷ []) = subst (λ (l : List ℕ). Items l (head 200 ∷ [])) (append-nil (watch_head 200)) (laws.watch [] false (All-nil HasNoFeed)) in
@@ -109,12 +111,12 @@ module _ (laws : Laws) (types : List ServedShape) (task : Task) (h : History) (m
       → whole ≡ request_with task (query_at (client_settings task) asks (option_map (λ now. now.revision) cache)) → Answers asks cache asked
   answers_by first cache asks cached able one is_whole =
       by_asked first cache (IsListCall types task_now None) one (subst (λ (l : List ℕ). AsksFor types l (IsListCall types task_now None)) (sym is_whole) (asks_first types task_now is.1))
-      (λ call such. let comes = first_page_comes types task_now h m call is.1 is_machine low such in plain_answer first cache call comes.items 0 comes.unwatched comes.read comes.lists)
+      (λ call such. let comes = first_page_comes types task_now h m (at_tick last_tick call) is.1 is_machine low (lists_at last_tick such) in plain_answer first cache call comes.items 0 comes.unwatched comes.read comes.lists)
   answers_by (next r token paged_list) cache asks cached able one is_whole =
       by_asked (next r token paged_list) cache (IsNextCall types task_now r paged_list) one
       (subst (λ (l : List ℕ). AsksFor types l (IsNextCall types task_now r paged_list)) (sym is_whole) (asks_next types task_now h r token paged_list is.1 is_machine able.1 able.2))
       (λ call such.
-      let comes = next_page_comes types task_now h m r token paged_list call is.1 is_machine able.0 able.1 able.2 such in
+      let comes = next_page_comes types task_now h m r token paged_list (at_tick last_tick call) is.1 is_machine able.0 able.1 able.2 (such.0, such.1, lists_at last_tick such.2) in
       plain_answer (next r token paged_list) cache call comes.items 0 comes.unwatched comes.read comes.lists)
   answers_by streaming None asks cached able one is_whole = absurd (true≢false (sym able))
   answers_by streaming (Some now) asks cached able one is_whole =
@@ -123,9 +125,10 @@ module _ (laws : Laws) (types : List ServedShape) (task : Task) (h : History) (m
       let come : now.revision ≤ h.current = omega (arith, same, low) in
       by_asked streaming (Some now) (IsWatchCall types task_now now.revision) one
       (subst (λ (l : List ℕ). AsksFor types l (IsWatchCall types task_now now.revision)) (sym is_whole) (asks_watch types task_now now.revision is.1 (omega (arith, come, top))))
-      (λ call such. begins now asks come call (watch_begins types task_now h now.revision call is.1 is_machine (omega (arith, same, begun)) come such))
+      (λ call such. begins now asks come call (watch_begins types task_now h now.revision (at_tick last_tick call) is.1 is_machine (omega (arith, same, begun)) come (watches_at last_tick such)))
     where
-      begins : (now : Cache) → c.sync ≡ streaming → now.revision ≤ h.current → (call : Call) → WatchOpens types task_now h now.revision call ⊎ WatchRefused types task_now h now.revision call → Answers streaming (Some now) (accepted call)
+      begins : (now : Cache) → c.sync ≡ streaming → now.revision ≤ h.current → (call : Call) → WatchOpens types task_now h now.revision (at_tick last_tick call) ⊎ WatchRefused types task_now h now.revision (at_tick last_tick call)
+          → Answers streaming (Some now) (accepted call)
       begins now asks come call (inl opens) = watch_answer call now asks come opens
       begins now asks come call (inr refused) = plain_answer streaming (Some now) call refused.items refused.to refused.unwatched refused.read refused.watches
 

@@ -52,7 +52,7 @@ module _ (types : List ServedShape) (task : Task) (is : IsTask types task) where
   target_is = of_objects task.settings.kind (collection_in task.settings.namespace) Get
 
   abbrev call_with : List ℕ → Call
-  call_with query = record { target = target_is; query = query; body = None }
+  call_with query = record { target = target_is; query = query; body = None; agent = None; ticked = 0 }
 
   place : RequestInfo
   place = record { resource = resource_for task.settings.namespace; kind = task.settings.kind; namespace = task.settings.namespace; name = None }
@@ -86,7 +86,7 @@ module _ (types : List ServedShape) (task : Task) (is : IsTask types task) where
           let small : length (request_with task query) ≤ max_head = leb-true (length (request_with task query)) max_head fits in
           let printed : IsPrinted (codes "GET") (path_of (wanted_by task) ++ 63 ∷ query) None = record { parts = is_request query all; fits = small } in
           inr (subst (Asks types (request_with task query))
-          (ap (λ r. and_then (decided_by r) (λ target. accepted (record { target = target; query = query; body = None }))) is_admitted)
+          (ap (λ r. and_then (decided_by r) (λ target. accepted (record { target = target; query = query; body = None; agent = None; ticked = 0 }))) is_admitted)
           (bodiless_asks types (codes "GET") (path_of (wanted_by task)) query (unasked (path_of (wanted_by task)) (path_bytes types task is)) refl printed))
       by_length false long =
           let large : max_head < length (request_with task query) = leb-false (length (request_with task query)) max_head long in

@@ -1,5 +1,5 @@
 -- What the line of a change that the client's watch sees says.
-use Rattle.std.proofs.Common.{◌≡◌, ℕ, ◌≤◌, true, List, [], ◌∷◌, map, refl, ap, ap₂, ◌∙◌}
+use Rattle.std.proofs.Common.{◌≡◌, ℕ, ◌≤◌, true, List, [], ◌∷◌, map, Option, refl, ap, ap₂, ◌∙◌}
 use Rattle.std.specs.List.{All, AllByRecursion}
 use Rattle.std.proofs.lemmas.Bool.{and_parts}
 use Rattle.std.proofs.lemmas.List.Elements.{All-cons, All-nil}
@@ -9,6 +9,7 @@ use Rattle.history.specs.Page.{is_within}
 use Rattle.history.specs.Seen.{Added, Deleted, Modified, SeenChange, SeenKind}
 use Rattle.objects.specs.ObjectText.{object_value}
 use Rattle.objects.specs.ReadBack.{max_version}
+use Rattle.objects.specs.SystemMetadata.{System, stamped}
 use Rattle.selector.specs.Requirement.{selects}
 use Rattle.indexer.specs.Objects.{Stored}
 use Rattle.lists.specs.Body.{Collection}
@@ -17,7 +18,7 @@ use Rattle.decoder.specs.Objects.{object_of}
 use Rattle.decoder.specs.Wanted.{Wanted}
 use Rattle.watchline.specs.Lines.{line_of, text_shown, type_of}
 use Rattle.line_laws.specs.Listed.{IsKept, IsReadAs, IsWanted, identity_of}
-use Rattle.line_laws.specs.Shown.{shown, taken, version_shown}
+use Rattle.line_laws.specs.Shown.{shown, stamp_shown, taken}
 use Rattle.line_laws.proofs.Kept.{one_fits}
 use Rattle.line_laws.proofs.Objects.{object_read}
 use Rattle.line_laws.proofs.Pages.{one_read, place, taken_as}
@@ -88,7 +89,7 @@ module _ (types : List ServedShape) (task : Task) (is : IsTask types task) where
     asks = wants types task is
 
     -- put, as it stands
-    represents_read : (kind : SeenKind) → version_shown kind o.revision o.revision ≡ o.revision → IsSomeTextAt types k o.revision o.body
+    represents_read : (kind : SeenKind) → ((system : Option System) → stamp_shown kind (stamped o.revision system) o.revision ≡ stamped o.revision system) → IsSomeTextAt types k o.revision o.body
         → (x : Stored) × SaysLine wanted (shown (type_of kind) (text_shown kind o)) (taken kind x) × IsReadAs wanted k o x
     represents_read kind same text =
         let fits = one_fits wanted of asks (k, o) (λ own. kept k o own text) within in
@@ -96,8 +97,8 @@ module _ (types : List ServedShape) (task : Task) (is : IsTask types task) where
         let state = fits.0.state in
         let found = taken_as wanted of asks k o fits.0 fits.1 in (
           found.0,
-          change_says wanted shape (identity_of of k) o.revision state (record { kind = kind; key = k; object = o }) found.0 fits.0.shaped fits.0.says
-              (ap (λ v. object_of wanted (object_value shape (identity_of of k) v state)) same ∙ found.1),
+          change_says wanted shape (identity_of of k) (stamped o.revision fits.0.system) state (record { kind = kind; key = k; object = o }) found.0 fits.0.shaped fits.0.says
+              (ap (λ v. object_of wanted (object_value shape (identity_of of k) v state)) (same fits.0.system) ∙ found.1),
           one_read wanted of asks k o fits.0 fits.1,
         )
 
@@ -109,16 +110,16 @@ module _ (types : List ServedShape) (task : Task) (is : IsTask types task) where
         let fits = one_fits wanted of asks (k, before) (λ own. kept k before own text) within in
         let shape = fits.0.shape in
         let state = fits.0.state in
-        let found = object_read wanted shape (identity_of of k) o.revision state fits.0.shaped fits.0.says.well_typed low (place wanted of asks k before fits.0 fits.1) in (
+        let found = object_read wanted shape (identity_of of k) (stamped o.revision fits.0.system) state fits.0.shaped fits.0.says.well_typed low (place wanted of asks k before fits.0 fits.1) in (
           found.0,
-          change_says wanted shape (identity_of of k) version state (record { kind = Deleted; key = k; object = o }) found.0 fits.0.shaped fits.0.says found.1,
+          change_says wanted shape (identity_of of k) (stamped version fits.0.system) state (record { kind = Deleted; key = k; object = o }) found.0 fits.0.shaped fits.0.says found.1,
           ap₂ (λ (a b : List ℕ). (a, b)) found.2.of_namespace found.2.of_name,
           found.2.of_revision,
         )
 
     read_as : (kind : SeenKind) → HasText types kind k o → IsReadLine wanted kind k o
-    read_as Added text = let found = represents_read Added refl text in record { stored = found.0; says = found.1; is_it = found.2 }
-    read_as Modified text = let found = represents_read Modified refl text in record { stored = found.0; says = found.1; is_it = found.2 }
+    read_as Added text = let found = represents_read Added (λ system. refl) text in record { stored = found.0; says = found.1; is_it = found.2 }
+    read_as Modified text = let found = represents_read Modified (λ system. refl) text in record { stored = found.0; says = found.1; is_it = found.2 }
     read_as Deleted (version, text) = let found = gone_read version text in record { stored = found.0; says = found.1; is_it = (found.2, found.3) }
 
   -- it is of the type, and in the namespace, if one is asked for

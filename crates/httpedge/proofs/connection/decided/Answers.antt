@@ -1,4 +1,6 @@
-use Rattle.std.proofs.Common.{refl, ap, subst, ◌∙◌}
+use Rattle.std.proofs.Common.{option_map, refl, ap, subst, ◌∙◌}
+use Rattle.answers.specs.Views.{watch_from}
+use Rattle.api_request.specs.Calls.{Call, at_tick}
 use Rattle.api_request.specs.Views.{call_of, denied_of}
 use Rattle.verbs.specs.Step.{planned}
 use Rattle.requests.specs.Replies.{answer_bytes}
@@ -6,6 +8,7 @@ use Rattle.requests.specs.Decision.{undecided, refused, accepted}
 use Rattle.requests.specs.Pendings.{Finds}
 use Rattle.requests.specs.ReadBufferViews.{buffered}
 use Rattle.httpedge.specs.declared.effect.Done.{Done}
+use Rattle.httpedge.specs.CallReplyViews.{Serves}
 use Rattle.httpedge.specs.Effects.{asked_in, unasked}
 use Rattle.httpedge.proofs.Turning.{answered_did}
 use Rattle.httpedge.proofs.connection.decided.Goals as goal
@@ -29,8 +32,9 @@ returns-in_ok-connection-in-Refused-clause-ok c = λ types m represents finds.
 pub returns-in_ok-served-in-Call-clause-ok : goal.returns-in_ok-served-in-Call-clause-ok
 returns-in_ok-served-in-Call-clause-ok c = λ types m represents finds.
     let bytes = buffered c.args.prefix in
-    let served = c.in_ok-served-in-Call.ensures.ok types m represents in
-    let answer = (planned types m (call_of c.in-Call.call)).answer in
+    let reply = c.in_ok-served-in-Call.served in
+    let served = subst (λ (call : Call). Serves types m call reply.bytes.items reply.status (option_map watch_from reply.watch) c.serve.new.api) c.at_tick-call.ensures (c.in_ok-served-in-Call.ensures.ok types m represents) in
+    let answer = (planned types m (at_tick c.args.last_tick (call_of c.in-Call.call))).answer in
     let written = served.0 ∙ ap (answer_bytes answer) served.2 in (
       accepted (call_of c.in-Call.call),
       subst (Finds types bytes) c.in-Call.is finds,

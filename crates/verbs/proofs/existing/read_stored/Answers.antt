@@ -3,16 +3,21 @@ use Rattle.api_types.specs.Served.{served}
 use Rattle.history.specs.Read.{key_of}
 use Rattle.objects.specs.ObjectText.{Identity}
 use Rattle.objects.specs.ReadBack.{IsObjectText, IsReadBack}
-use Rattle.objects.specs.Views.{identity_of as identity_seen, state_of}
+use Rattle.objects.specs.Views.{identity_of as identity_seen, state_of, stored_stamp}
 use Rattle.objects.specs.declared.fault.ObjectFault.{ObjectFault}
-use Rattle.verbs.specs.Machine.{identity_of, decoded_state}
-use Rattle.verbs.proofs.Said.{said_back}
+use Rattle.verbs.specs.Machine.{identity_of, decoded_state, decoded_system}
+use Rattle.verbs.proofs.Said.{said_back, said_system}
 use Rattle.verbs.proofs.existing.read_stored.Goals as goal
 
 pub returns-in-Ok-clause-state : goal.returns-in-Ok-clause-state
 returns-in-Ok-clause-state c =
     let t = served c.args.served.now in
-    sym (said_back t.shape _ c.in-Ok.read.1 (state_of c.in-Ok.read.0) _ c.requires (c.in-Ok.ensures c.requires)) ∙ ap (decoded_state t.shape) c.as_str-2.ensures.value
+    sym (said_back t.shape _ (stored_stamp c.in-Ok.read) (state_of c.in-Ok.read.owned) _ c.requires (c.in-Ok.ensures c.requires)) ∙ ap (decoded_state t.shape) c.as_str-2.ensures.value
+
+pub returns-in-Ok-clause-system : goal.returns-in-Ok-clause-system
+returns-in-Ok-clause-system c =
+    let t = served c.args.served.now in
+    sym (said_system t.shape _ (stored_stamp c.in-Ok.read) (state_of c.in-Ok.read.owned) _ c.requires (c.in-Ok.ensures c.requires)) ∙ ap (decoded_system t.shape) c.as_str-2.ensures.value
 
 pub returns-in-Err-NotCanonical-clause-readable : goal.returns-in-Err-NotCanonical-clause-readable
 returns-in-Err-NotCanonical-clause-readable c =

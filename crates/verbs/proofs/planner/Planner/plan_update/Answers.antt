@@ -17,4 +17,4 @@ plan_put_unless_same-requires-clause-well_typed c =
     let i = intent_seen c.in_ok-intent.intent in
     c.in_ok-owned.ensures.well_typed t.shape
     (intended_content (at_path t (key_of c.args.key) Update c.args.subresource) asked.Put q d i c.requires.planner.1 c.in_ok-body.ensures.json
-    (subst (λ of. intent_of of asked.Put q d ≡ Ok i) c.at_path-expected.ensures c.in_ok-intent.ensures)) c.requires.existing.1
+    (subst (λ of. intent_of of asked.Put q d ≡ Ok i) c.at_path-expected.ensures c.in_ok-intent.ensures)) c.requires.existing.well_typed
