@@ -24,12 +24,14 @@ APPLIED = (
     '"fieldsType":"FieldsV1","fieldsV1":{"f:spec":{"f:image":{},"f:replicas":{}}},"manager":"alice",'
     '"operation":"Apply"}],"name":"w1","namespace":"default","resourceVersion":"2"},"spec":{"image":"a","replicas":3}}'
 )
-# A list, half a request, a watch, the first apply; what the list gets before it, and what the watch gets by it, or where
-# nothing before the current version is kept.
+# A list, half a request, a watch, one of the first version, the first apply; what the list gets before it, and what the watch
+# gets by it, or where it is cut before that, or where nothing before the current version is kept; what the watch of the first
+# version then gets.
 TEXTS = {
     "list": f"GET {PATH} HTTP/1.1|$Host: localhost|$|$",
     "half": "GET / HTTP/1.1|$",
     "watch": f"GET {PATH}?watch=true HTTP/1.1|$Host: localhost|$|$",
+    "watch-of-1": f"GET {PATH}?watch=true&resourceVersion=1 HTTP/1.1|$Host: localhost|$|$",
     "apply": "PATCH /apis/demo.example/v1/namespaces/default/widgets/w1?fieldManager=alice HTTP/1.1|$Host: localhost|$"
     "Content-Type: application/apply-patch+yaml|$Content-Length: 107|$|$"
     '{"apiVersion":"demo.example/v1","kind":"Widget","metadata":{"name":"w1"},"spec":{"image":"a","replicas":3}}',
@@ -37,6 +39,9 @@ TEXTS = {
     '{"apiVersion":"demo.example/v1","items":[],"kind":"WidgetList","metadata":{"resourceVersion":"1"}}',
     "added": f'{CHUNKED}158|${{"type":"ADDED","object":{APPLIED}}}$|$',
     "overtaken": f'{CHUNKED}a9|${{"type":"ERROR","object":{EXPIRED}}}$|$0|$|$',
+    "head": CHUNKED,
+    "expired": "HTTP/1.1 410 Gone|$Content-Type: application/json|$Content-Length: 142|$Connection: close|$|$"
+    f"{EXPIRED}",
     "nothing": "",
 }
 NAMED = {name: bytes_of(text) for name, text in TEXTS.items()}
@@ -45,7 +50,7 @@ NAMED["no-request"] = b'\xff a"b\n\n'
 STAYS = "added"
 # A stream is quiet that gives nothing for so many seconds.
 QUIET = 0.1
-LOGGED = re.compile(r"(\d+\.\d{3}) (.*) \d+\.\d{3}")
+LOGGED = re.compile(r"(\d+\.\d{3}) (.*?)( \d+\.\d{3})?")
 
 
 def heard(stream: socket.socket, count: int) -> bytes:
@@ -136,7 +141,7 @@ class Server:
         return str(json.loads(body)["metadata"]["resourceVersion"])
 
     def logged(self) -> str:
-        """The next line of the log, without its time and its milliseconds."""
+        """The next line of the log, without its time and its milliseconds, if it has any."""
         assert self.process.stderr is not None
         until = time.monotonic() + SECONDS
         while b"\n" not in self.log and time.monotonic() < until:

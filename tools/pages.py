@@ -24,6 +24,10 @@ TOP = os.path.dirname(os.path.dirname(os.path.realpath(__file__)))
 PLACE = "docs/generated"
 HEAD = "Written by `tools/pages.py`; `./test` fails where it is stale."
 LITERAL = re.compile(r'"((?:[^"\\]|\\.)*)"')
+# a refusal for a field: what comes first, its path and what is wrong with it, each as a text or as a variable
+FIELD = re.compile(
+    r'\b(?:require_at|invalid_at|at_field)\(([^;"]*?)(?:"([^"]*)"|\bpath(?:\.as_str\(\))?),\s*(?:"([^"]*)"|what\b)'
+)
 TESTS = re.compile("_tests$|^test_rows")
 
 
@@ -425,6 +429,22 @@ def said(
         yield reasons, texts_in(part) or texts_in(message) or texts_in(function.body)
 
 
+def field_rows(
+    crate: str, choices: dict[str, list[str]]
+) -> Iterator[tuple[list[str], list[str], str, str]]:
+    """The same of each refusal for a field, which is made of its path and of what is wrong with it."""
+    users = [it for it in of_crate(crate) if not FIELD.match(f"{it.name}(path, what")]
+    for user in users:
+        for call, path, what in FIELD.findall(user.body):
+            reasons = re.findall(r"Reason::(\w+)", call) + [
+                it for name in choices if f"{name}(" in call for it in choices[name]
+            ]
+            made = re.search(r'let path = format!\(in alloc; "([^"]*)"', user.body)
+            text = f"{path or (made[1] if made else '{path}')}: {what or '{what}'}"
+            if path or reasons:
+                yield reasons or ["Invalid"], [text], called(user), user.file
+
+
 def refusal_rows(crate: str) -> Iterator[tuple[list[str], list[str], str, str]]:
     """The reasons, the texts, the place and the file of each refusal of a crate."""
     all_of = [
@@ -437,6 +457,7 @@ def refusal_rows(crate: str) -> Iterator[tuple[list[str], list[str], str, str]]:
         for it in all_of
         if "-> Reason" in it.contract
     }
+    yield from field_rows(crate, choices)
     for it in all_of:
         if it.name == "reason":
             messages = next(
@@ -458,7 +479,9 @@ def refusal_rows(crate: str) -> Iterator[tuple[list[str], list[str], str, str]]:
         elif it.name not in choices:
             yield from (
                 (reasons, texts, called(it), it.file)
-                for reasons, texts in said(it, choices)
+                for reasons, texts in said(
+                    it._replace(body=FIELD.sub("", it.body)), choices
+                )
             )
 
 

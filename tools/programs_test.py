@@ -1,5 +1,5 @@
 #!/usr/bin/env python3
-"""Tests the programs as processes: how they end, which fault is told first, and what a server tells and follows.
+"""Tests the programs as processes: how they end, which fault is told first, and what a server tells, follows and disturbs.
 
     tools/programs_test.py [FOLDER]
 
@@ -10,6 +10,7 @@ and the gate build them, and `ssa-pipe` is the gate's link beside `ssa_replay`. 
 import json
 import os
 import queue
+import random
 import re
 import resource
 import signal
@@ -25,6 +26,7 @@ from contextlib import contextmanager
 from typing import Any
 
 import released
+from following import Follower
 
 WIDGETS = "/apis/demo.example/v1/namespaces/default/widgets"
 LIST = f"GET {WIDGETS} HTTP/1.1\r\nHost: localhost\r\n\r\n"
@@ -455,6 +457,74 @@ class Tells(InRoom):
             self.assertTrue(0 < len(text) <= size and text.endswith("\n"), text)
             played = run("ssa_replay", "--types", self.types, "--script", script)
             self.assertEqual(played.returncode, 0)
+
+
+def kind_after(seed: int, version: int) -> str:
+    """How a watch is disturbed by a seed once another version follows this one, as a log says it; empty if none is."""
+    word = (seed + (version + 1) * 0x9E3779B97F4A7C15) % 2**64
+    word = (word ^ word >> 30) * 0xBF58476D1CE4E5B9 % 2**64
+    word = (word ^ word >> 27) * 0x94D049BB133111EB % 2**64
+    word ^= word >> 31
+    return ("cut", "held back", "expired")[word // 4 % 3] if word % 4 == 0 else ""
+
+
+class Disturbs(InRoom):
+    """A server that disturbs watches by a seed."""
+
+    def told(self, server: Server) -> list[str]:
+        """How watches were disturbed by now, by the log."""
+        # (the end of a watch of two seconds is told in a later turn than what was written before)
+        ends = f"GET {WIDGETS}?watch=true&timeoutSeconds=2"
+        reply_to(server.port, f"{ends} HTTP/1.1\r\nHost: localhost\r\n\r\n")
+        lines: list[str] = []
+        while f" {ends} ended " not in (line := server.said()):
+            self.assertNotEqual(line, "")
+            lines.append(line)
+        return [it.partition(": ")[2] for it in lines if " disturbed: " in it]
+
+    def test_the_sequence_of_a_seed(self) -> None:
+        """The words of SplitMix64, by version; of one kind they are the same, without the others."""
+        writes = 200
+        for seed in (7, 8, 2**64 - 1):
+            disturb = ("--concurrent", "--log", "--disturb", f"{seed}:holds")
+            with self.subTest(seed), serving("--types", self.types, *disturb) as server:
+                watch = f"GET {WIDGETS}?watch=true HTTP/1.1\r\nHost: localhost\r\n\r\n"
+                with socket.create_connection(("127.0.0.1", server.port), SECONDS) as it:
+                    it.sendall(watch.encode())
+                    self.assertTrue(it.recv(65536).startswith(b"HTTP/1.1 200 "))
+                    for n in range(writes):
+                        reply_to(server.port, applied([str(n)]))
+                    told = self.told(server)
+                kinds = [kind_after(seed, version) for version in range(1, 1 + writes)]
+                self.assertEqual(told, ["held back"] * kinds.count("held back"))
+
+    def test_followers_hold_its_objects(self) -> None:
+        """Three clients that list and watch by the rules, while 200 writes come; the record plays them again."""
+        script = f"{self.room}/script"
+        disturb = ("--concurrent", "--log", "--record", script, "--disturb", "7")
+        draws = random.Random(7)
+        with serving("--types", self.types, *disturb) as server:
+            following = [Follower(server.port, WIDGETS) for _ in range(3)]
+            for it in following:
+                it.start()
+            for n in range(200):
+                name = f"w{draws.randrange(40)}"
+                gone = f"DELETE {WIDGETS}/{name} HTTP/1.1\r\nHost: localhost\r\n\r\n"
+                is_gone = draws.random() < 0.2
+                reply_to(server.port, gone if is_gone else applied([str(n)], name))
+            reply = reply_to(server.port, LIST)
+            listed = json.loads(reply.partition("\r\n\r\n")[2])
+            held = {it["metadata"]["name"]: it for it in listed["items"]}
+            for it in following:
+                self.assertEqual(it.ended_at(int(listed["metadata"]["resourceVersion"])), held)
+            self.assertEqual({*self.told(server)}, {"cut", "held back", "expired"})
+        with open(script, "rb+") as record:
+            # (a server that is killed may leave half a line)
+            text = record.read()
+            record.truncate(text.rfind(b"\n") + 1)
+        played = run("ssa_replay", "--types", self.types, "--script", script)
+        self.assertEqual(played.returncode, 0)
+        self.assertIn(reply.replace("\r\n", "\n"), played.stdout)
 
 
 if __name__ == "__main__":

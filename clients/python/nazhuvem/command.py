@@ -57,6 +57,7 @@ def _serve(asked: argparse.Namespace, command: Sequence[str]) -> int:
     types = asked.types[0] if len(asked.types) == 1 else asked.types
     names = ", ".join(TypesFile(types).names)
     options = {"keep": asked.keep, "objects": asked.objects, "record": asked.record}
+    options["disturb"] = asked.disturb
     with tempfile.TemporaryDirectory(prefix="nazhuvem-") as folder, Server(
         types, port=asked.port, log=False, **options
     ) as server:
@@ -157,6 +158,9 @@ def _arguments() -> argparse.ArgumentParser:
     serve.add_argument("--port", type=int, default=0, help="0 is a free one")
     serve.add_argument("--kubeconfig", metavar="FILE", help="write a kubeconfig")
     serve.add_argument("--keep", type=int, help="how many versions are kept")
+    serve.add_argument(
+        "--disturb", metavar="SEED[:KINDS]", help="disturb watches by a seed"
+    )
     serve.add_argument("--objects", metavar="FILE", help="the objects to begin with")
     serve.add_argument(
         "--record", metavar="FILE", help="write a script of what happens"

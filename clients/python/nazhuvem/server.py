@@ -37,9 +37,10 @@ class Server:
             urllib.request.urlopen(server.url + "/apis/demo.example/v1/widgets")
 
     It serves many connections at once, and the documents of discovery, by which
-    clients find the types. `keep`, `pump`, `patience`, `objects` and `record` are the
-    program's options of these names (`keep=5`: so many versions before the current
-    one). `options` are further words of its command line.
+    clients find the types. `keep`, `pump`, `patience`, `disturb`, `objects` and
+    `record` are the program's options of these names (`keep=5`: so many versions before
+    the current one; `disturb=7`, `disturb="7:cuts,expiries"`: watches are disturbed by
+    a seed). `options` are further words of its command line.
     """
 
     def __init__(
@@ -52,12 +53,14 @@ class Server:
         keep: Optional[int] = None,
         pump: Optional[int] = None,
         patience: Optional[int] = None,
+        disturb: Union[int, str, None] = None,
         objects: Union[str, PathLike[str], None] = None,
         record: Union[str, PathLike[str], None] = None,
     ) -> None:
         named: dict[str, object] = {"port": port, "concurrent": True}
         named |= {"discovery": discovery, "log": log, "keep": keep, "pump": pump}
-        named |= {"patience": patience, "objects": objects, "record": record}
+        named |= {"patience": patience, "disturb": disturb}
+        named |= {"objects": objects, "record": record}
         program = find("ssa-server")
         self._types = TypesFile(types)
         self._process = subprocess.Popen(

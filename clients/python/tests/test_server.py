@@ -55,6 +55,8 @@ class ServerTest(unittest.TestCase):
         self.assertEqual(server.log, "")
         with self.assertRaisesRegex(ServerFailed, "--keep"):
             Server(TYPES, keep=1 << 80)
+        with self.assertRaisesRegex(ServerFailed, "--disturb: a seed"):
+            Server(TYPES, disturb="7:all")
 
     def test_clients_find_the_types(self) -> None:
         with Server(TYPES) as server:

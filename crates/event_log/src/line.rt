@@ -1,6 +1,7 @@
 //! A line of the log, and how it reads. What is told when stands in `log`.
 
 use httpedge::HubFailure;
+use observing::Disturbance;
 use std::fmt;
 use std::io::ErrorKind;
 use std::time::{Duration, Instant};
@@ -76,6 +77,8 @@ pub enum Told {
     Failed(HubFailure),
     /// Memory, or the system, failed a stream.
     Lost(ErrorKind),
+    /// The server disturbs a watch by itself.
+    Disturbed(Disturbance),
 }
 
 /// A line of the log.
@@ -155,6 +158,15 @@ fn write_status<W: fmt::Write>(f: &mut fmt::Formatter<W>, status: Option<u16>) -
     }
 }
 
+/// What becomes of a watch that is disturbed so.
+fn word_of(how: Disturbance) -> &'static str {
+    match how {
+        Disturbance::Cut => "cut",
+        Disturbance::Hold => "held back",
+        Disturbance::Expiry => "expired",
+    }
+}
+
 impl fmt::Display for Line<'_> {
     fn fmt<W: fmt::Write>(&self, f: &mut fmt::Formatter<W>) -> fmt::Result {
         let seconds = self.since_1970.as_secs();
@@ -176,6 +188,7 @@ impl fmt::Display for Line<'_> {
             }
             Told::Failed(failure) => write!(f, "failed: {failure}"),
             Told::Lost(why) => write!(f, "failed: {why}"),
+            Told::Disturbed(how) => write!(f, "disturbed: {}", word_of(how)),
         }
     }
 }

@@ -5,6 +5,7 @@ ghost use Rattle.event_log.specs.declared.line.Told.TheVariants as told;
 
 use crate::line::{Line, LogCall, Moment, Sink, Told};
 use httpedge::{Change, Effect, Event, Hub, HubFailure, HubFault};
+use observing::Disturbance;
 use requests::Request;
 use std::alloc::Global;
 use std::collections::BTreeMap;
@@ -303,5 +304,28 @@ impl Log {
     /// Tells what failed the stream of a connection.
     pub fn tell_loss<S: Sink>(&mut self, sink: &mut S, id: u64, why: ErrorKind, moment: Moment) {
         self.tell_cut(sink, id, moment, Told::Lost(why));
+    }
+
+    /// The line of a watch that is disturbed so.
+    fn line_of_disturbance(&self, id: u64, how: Disturbance, moment: Moment) -> Line<'_>
+        ensures id { result.id ≡ id }
+        ensures told { result.told ≡ told.Disturbed how }
+    {
+        let call = match self.connections.get(&id) {
+            Some(opened) => opened.call(),
+            None => LogCall::none(),
+        };
+        Line::new(moment.since_1970, id, call, Told::Disturbed(how))
+    }
+
+    /// Tells how the watch of a connection is disturbed.
+    pub fn tell_disturbance<S: Sink>(
+        &self,
+        sink: &mut S,
+        id: u64,
+        how: Disturbance,
+        moment: Moment,
+    ) {
+        sink.tell(&self.line_of_disturbance(id, how, moment));
     }
 }

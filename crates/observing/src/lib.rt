@@ -5,8 +5,10 @@
 //! Stands on `httpedge` for what the events lead to.
 #![tactic(auto)]
 
+mod disturbance;
 mod handing;
 mod observer;
 
+pub use disturbance::Disturbance;
 pub use handing::{compact, hand, step};
 pub use observer::{Observer, Unobserved};

@@ -1,5 +1,6 @@
 //! What an observer of a hub's events is. How events are handed on stands in `handing`.
 
+use crate::disturbance::Disturbance;
 use httpedge::{Effect, Event, Hub, HubFault};
 use std::io::ErrorKind;
 
@@ -14,6 +15,9 @@ pub trait Observer {
     /// A connection is closed because the system or memory failed its stream: what was asked on it, or what is left of its
     /// reply, is lost.
     fn loses(&mut self, id: u64, why: ErrorKind);
+
+    /// The server disturbs the watch of a connection by itself, which is done next.
+    fn disturbs(&mut self, id: u64, how: Disturbance);
 }
 
 /// Nobody is told anything.
@@ -26,4 +30,6 @@ impl Observer for Unobserved {
     fn learns(&mut self, _hub: &Hub, _event: &Event, _done: &Result<Effect, HubFault>) {}
 
     fn loses(&mut self, _id: u64, _why: ErrorKind) {}
+
+    fn disturbs(&mut self, _id: u64, _how: Disturbance) {}
 }

@@ -1,2 +1,3 @@
+pub mod Disturbances
 pub mod Happens
 pub mod ServerViews

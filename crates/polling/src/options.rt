@@ -1,5 +1,7 @@
-//! What a server of many connections is asked for: port, what is kept, how many lines at a time, patience. They are
-//! read from a command line in the crate `server_program`, and followed in `peers`.
+//! What a server of many connections is asked for: port, what is kept, how many lines at a time, patience, disturbances.
+//! They are read from a command line in the crate `server_program`, and followed in `peers`.
+
+use crate::disturbances::Disturbances;
 
 /// How connections are served.
 #[derive(Clone, Copy, Debug)]
@@ -12,4 +14,6 @@ pub struct Options {
     pub lines: u64,
     /// After how many milliseconds a peer that keeps the server waiting is dropped.
     pub patience: u64,
+    /// After which revisions watches are disturbed.
+    pub disturbances: Option<Disturbances>,
 }

@@ -6,12 +6,13 @@ ghost use Rattle.serde_json.specs.View.{view};
 ghost use Rattle.httpedge.specs.Steps.{retypes};
 ghost use Rattle.polling.specs.Happens.{Answers, Reaches, ReachesUnasked, ReachesUnaskedOn};
 
+use crate::disturbances::Disturbances;
 use crate::options::Options;
 use crate::peer::{Next, Peer};
 use httpedge::{Effect, Event, Hub, HubFault};
 use mio::net::{TcpListener, TcpStream};
 use mio::{Events, Interest, Poll, Token};
-use observing::{Observer, compact, hand, step};
+use observing::{Disturbance, Observer, compact, hand, step};
 use serde_json::Value;
 use std::alloc::Global;
 use std::collections::BTreeMap;
@@ -95,6 +96,8 @@ pub(crate) struct Peers {
     watches: Vec<u64>,
     /// The connections that have a turn again at once.
     again: Vec<u64>,
+    /// The watches whose lines are held back until the next tick.
+    held: Vec<u64>,
     /// A watch has more lines to write, and its peer takes them.
     has_lines: bool,
     /// How many bytes the turns of watches that had more lines have made in this round.
@@ -126,6 +129,7 @@ impl Peers {
     ) -> Peers
         ensures { result.hub ≡ hub }
     {
+        let (revision, _) = hub.marks().unwrap_or((0, 0));
         Peers {
             alloc,
             options,
@@ -135,6 +139,7 @@ impl Peers {
             entries: BTreeMap::new(alloc),
             watches: Vec::new(alloc),
             again: Vec::new(alloc),
+            held: Vec::new(alloc),
             has_lines: false,
             made: 0,
             put_off: None,
@@ -142,7 +147,7 @@ impl Peers {
             must_accept_again: false,
             highest: 0,
             closed: 0,
-            revision: 0,
+            revision,
             started: now,
             ticked: now,
         }
@@ -227,14 +232,16 @@ impl Peers {
     }
 
     /// What is done after the turns of connections, in this order: each second the hub's tick; a compaction, where one is due;
-    /// and the turns of the watches. So a watch gets what came in one turn, or is told that it is forgotten,
-    /// unless more is left for it than one pump sends, or its bytes still wait for its peer. Each second ends the
-    /// connections whose peers are silent.
+    /// the disturbances that are asked for; and the turns of the watches. So a watch gets what came in one turn, or is told
+    /// that it is forgotten, unless more is left for it than one pump sends, its bytes still wait for its peer, or it is
+    /// disturbed. Each second ends the connections whose peers are silent.
     pub(crate) fn settle<O: Observer>(&mut self, observer: &mut O, now: Instant)
         ensures { ReachesUnasked self.old.hub self.new.hub }
     {
         let is_second = self.tick(observer, now);
+        let seen = self.revision;
         let is_risen = self.compact(observer, is_second);
+        self.disturb(observer, seen);
         self.pump_watches(observer, is_second || is_risen, now);
         if is_second {
             self.drop_silent(observer, now);
@@ -266,6 +273,7 @@ impl Peers {
             return false;
         }
         self.ticked = now;
+        self.held.clear();
         let ms = now.duration_since(self.started).as_millis();
         let ms = u64::try_from(ms).unwrap_or(u64::MAX);
         hand(&mut self.hub, observer, Event::Tick(ms));
@@ -286,6 +294,60 @@ impl Peers {
             compact(&mut self.hub, observer, keep);
         }
         is_risen
+    }
+
+    /// Disturbs watches, by what is asked for after each revision from this one on that another has followed.
+    fn disturb<O: Observer>(&mut self, observer: &mut O, seen: u64)
+        ensures { ReachesUnasked self.old.hub self.new.hub }
+    {
+        let Some(disturbances) = self.options.disturbances else {
+            return;
+        };
+        for revision in seen..self.revision {
+            self.disturb_after(observer, disturbances, revision);
+        }
+    }
+
+    /// Disturbs a watch by what is asked for after a revision, if something is, and a watch is open.
+    fn disturb_after<O: Observer>(
+        &mut self,
+        observer: &mut O,
+        disturbances: Disturbances,
+        revision: u64,
+    )
+        ensures { ReachesUnasked self.old.hub self.new.hub }
+    {
+        let Some((how, number)) = disturbances.after(revision) else {
+            return;
+        };
+        let Some(id) = self.chosen(number) else {
+            return;
+        };
+        observer.disturbs(id, how);
+        match how {
+            Disturbance::Cut => self.close(observer, id, None),
+            Disturbance::Hold => self.hold(id),
+            Disturbance::Expiry => {
+                compact(&mut self.hub, observer, 0);
+                self.close(observer, id, None);
+            }
+        }
+    }
+
+    /// The watch that a number chooses among those that are open: their places are counted over and over.
+    fn chosen(&mut self, number: u64) -> Option<u64>
+        ensures { self.new.hub ≡ self.old.hub }
+    {
+        self.drop_closed();
+        let place = number.checked_rem(self.watches.len() as u64)?;
+        self.watches.get(place as usize).copied()
+    }
+
+    /// Holds back the lines of a watch; out of memory, it doesn't.
+    fn hold(&mut self, id: u64)
+        ensures { self.new.hub ≡ self.old.hub }
+    {
+        let _ = self.held.push(id);
     }
 
     fn accept_anew(&mut self)
@@ -362,6 +424,13 @@ impl Peers {
         let count = self.watches.len();
         self.pump_from(observer, first, count, all, now);
         self.pump_from(observer, 0, first, all, now);
+        self.drop_closed();
+    }
+
+    /// The watches that are over are none any more.
+    fn drop_closed(&mut self)
+        ensures { self.new.hub ≡ self.old.hub }
+    {
         let entries = &self.entries;
         self.watches.retain(|id| entries.contains_key(id));
     }
@@ -393,6 +462,9 @@ impl Peers {
         let Some(entry) = self.entries.get(&id) else {
             return;
         };
+        if self.held.contains(&id) {
+            return;
+        }
         let goes_on = entry.peer.may_go_on();
         if self.has_turn(at, all, goes_on) {
             self.pump_watch(observer, id, goes_on, now);

@@ -30,6 +30,9 @@ concurrent_own = ((λ e. absurd (omega arith)), (λ e. absurd (omega arith)), (�
 pub patience_own : IsOwn (codes "patience")
 patience_own = ((λ e. absurd (omega arith)), (λ e. absurd (omega arith)), (λ e. absurd (omega arith)))
 
+pub disturb_own : IsOwn (codes "disturb")
+disturb_own = ((λ e. absurd (omega arith)), (λ e. absurd (omega arith)), (λ e. absurd (omega arith)))
+
 pub log_own : IsOwn (codes "log")
 log_own = ((λ e. absurd (omega arith)), (λ e. absurd (omega arith)), (λ e. absurd (omega arith)))
 
@@ -44,13 +47,13 @@ discovery_own = ((λ e. absurd (omega arith)), (λ e. absurd (omega arith)), (λ
 
 abbrev pub names : List Text
 names =
-    codes "types" ∷ codes "port" ∷ codes "keep" ∷ codes "pump" ∷ codes "serve" ∷ codes "concurrent" ∷ codes "patience" ∷ codes "log" ∷ codes "record" ∷ codes "objects" ∷ codes "discovery" ∷ []
+    codes "types" ∷ codes "port" ∷ codes "keep" ∷ codes "pump" ∷ codes "serve" ∷ codes "concurrent" ∷ codes "patience" ∷ codes "disturb" ∷ codes "log" ∷ codes "record" ∷ codes "objects" ∷ codes "discovery" ∷ []
 
-pub names_are : {types port keep pump serve flag patience log recorded objects discovery : Text} → types ≡ codes "types" → port ≡ codes "port" → keep ≡ codes "keep" → pump ≡ codes "pump"
-    → serve ≡ codes "serve" → flag ≡ codes "concurrent" → patience ≡ codes "patience"
+pub names_are : {types port keep pump serve flag patience disturb log recorded objects discovery : Text} → types ≡ codes "types" → port ≡ codes "port" → keep ≡ codes "keep" → pump ≡ codes "pump"
+    → serve ≡ codes "serve" → flag ≡ codes "concurrent" → patience ≡ codes "patience" → disturb ≡ codes "disturb"
     → log ≡ codes "log" → recorded ≡ codes "record" → objects ≡ codes "objects" → discovery ≡ codes "discovery"
-    → types ∷ port ∷ keep ∷ pump ∷ serve ∷ flag ∷ patience ∷ log ∷ recorded ∷ objects ∷ discovery ∷ [] ≡ names
-names_are t p k u s f a l r o d = rw (t, p, k, u, s, f, a, l, r, o, d) refl
+    → types ∷ port ∷ keep ∷ pump ∷ serve ∷ flag ∷ patience ∷ disturb ∷ log ∷ recorded ∷ objects ∷ discovery ∷ [] ≡ names
+names_are t p k u s f a i l r o d = rw (t, p, k, u, s, f, a, i, l, r, o, d) refl
 
 pub names_differ : differ names ≡ true
 unfolding clap_on_literals

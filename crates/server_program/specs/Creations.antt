@@ -39,7 +39,8 @@ pub record IsPathFor (value : Data) (path : List ℕ) : Type 0 where
   pub names_namespace : namespace_in value ≡ Some namespace
   pub is : path ≡ codes "/apis/" ++ (version ++ (codes "/namespaces/" ++ (namespace ++ (codes "/" ++ plural))))
 
--- the call of a POST, without parameters, of the value that the line is of, which is no longer than a body may be
+-- the call of a POST, without parameters, of the value that the line is of, which is no longer than a body may be; no client makes it, and it
+-- comes before any tick
 pub record IsCreation (types : List ServedShape) (line : List ℕ) (call : Call) : Type 0 where
   pub fits : length line ≤ max_body
   pub value : Data
@@ -49,6 +50,8 @@ pub record IsCreation (types : List ServedShape) (line : List ℕ) (call : Call)
   pub target : admitted types (Some Post) path None ≡ Ok call.target
   pub query : call.query ≡ []
   pub body : call.body ≡ Some value
+  pub agent : call.agent ≡ None
+  pub ticked : call.ticked ≡ 0
 
 -- a creation of the line is answered as one, and the API is the one after it
 pub record Creates (types : List ServedShape) (m : History) (line : List ℕ) (api : Api) : Type 0 where

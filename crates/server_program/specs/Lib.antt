@@ -1,3 +1,4 @@
 pub mod Creations
+pub mod Disturbing
 pub mod ServerCommand
 pub mod Statuses

@@ -1,4 +1,4 @@
--- The arguments that `ssa-server` takes (its command, as `clap` reads it): `--types FILE`, which is required, numbers, flags, the paths of a record and of the first objects.
+-- The arguments that `ssa-server` takes (its command, as `clap` reads it): `--types FILE`, which is required, numbers, flags, disturbances, the paths of a record and of the first objects.
 use Rattle.std.specs.Prelude.{◌≡◌, Some, true, codes, is_some}
 use Rattle.clap.specs.Built.{IsParsedFrom}
 use Rattle.clap.specs.Words.{App, app_of, first_value, found_of, with_rule}
@@ -13,7 +13,8 @@ with_numbers app =
     (number_option (Some (codes "0")) (codes "serve"))
 
 abbrev with_modes : App → App
-with_modes app = with_rule (with_rule app (flag_option (codes "concurrent"))) (number_option (Some (codes "30000")) (codes "patience"))
+with_modes app =
+    with_rule (with_rule (with_rule app (flag_option (codes "concurrent"))) (number_option (Some (codes "30000")) (codes "patience"))) (text_option (codes "disturb"))
 
 abbrev pub ssa_server : App
 ssa_server =

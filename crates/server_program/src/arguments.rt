@@ -1,14 +1,17 @@
 //! The command line of `ssa-server`: its options, their numbers and its help. What the programs share stands in the crate
 //! `programs`.
 
-ghost use Rattle.std.specs.Prelude.{◌≡◌, IfOk, Some, codes, map, option_map};
+ghost use Rattle.std.specs.Prelude.{◌≡◌, IfOk, None, Some, codes, false, map, option_map};
 ghost use Rattle.clap.specs.Words.{first_of, matches_of, one_of};
 ghost use Rattle.programs.specs.Numbers.{IsCount, IsNumberOr};
 ghost use Rattle.programs.specs.Commands.{IsFlag};
+ghost use Rattle.server_program.specs.Disturbing.{AsksBy};
 ghost use Rattle.server_program.specs.ServerCommand.{IsServerCommand, ssa_server};
 
+use crate::disturbing::disturbances_of;
 use crate::fault::ServerFault;
 use clap::Command;
+use polling::Disturbances;
 use programs::{
     DISCOVERY, DISCOVERY_HELP, NumberOption, TYPES, TYPES_HELP, TextOption, count_of, file_option,
     flag_option, number, number_option, port_of, program, text_option,
@@ -69,6 +72,12 @@ const PATIENCE: NumberOption = NumberOption {
     help: "With --concurrent: how many milliseconds to wait for a peer that sends or takes nothing",
 };
 
+const DISTURB: TextOption<'static> = TextOption {
+    name: "disturb",
+    value: "SEED[:KINDS]",
+    help: "With --concurrent: disturb watches by a seed; some of cuts,holds,expiries are the kinds, or all",
+};
+
 const LOG: &str = "log";
 
 const LOG_HELP: &str =
@@ -108,6 +117,8 @@ pub struct ServerOptions<'a> {
     pub concurrent: bool,
     /// How many milliseconds a peer may keep the server waiting, where connections are served at once.
     pub patience: u64,
+    /// After which revisions watches are disturbed, where connections are served at once.
+    pub disturb: Option<Disturbances>,
     /// Whether requests are told on the standard error.
     pub log: bool,
     /// The path of the file to which events are recorded.
@@ -129,6 +140,7 @@ fn server_command<'a>(alloc: Global) -> Result<Command<'a>, AllocError>
         .arg(number_option(alloc, SERVE))?
         .arg(flag_option(alloc, CONCURRENT, CONCURRENT_HELP))?
         .arg(number_option(alloc, PATIENCE))?
+        .arg(text_option(alloc, DISTURB))?
         .arg(flag_option(alloc, LOG, LOG_HELP))?
         .arg(text_option(alloc, RECORD))?
         .arg(text_option(alloc, OBJECTS))?
@@ -147,6 +159,8 @@ pub fn options<'a, S: AsStr>(
     ensures serve { IfOk result (λ o. IsCount (first_of (codes "serve") (matches_of ssa_server (map S.text arguments.entry.now))) o.serve) }
     ensures concurrent { IfOk result (λ o. IsFlag (one_of (codes "concurrent") (matches_of ssa_server (map S.text arguments.entry.now))) o.concurrent) }
     ensures patience { IfOk result (λ o. IsNumberOr (codes "30000") (first_of (codes "patience") (matches_of ssa_server (map S.text arguments.entry.now))) o.patience) }
+    ensures disturb { IfOk result (λ o. AsksBy (first_of (codes "disturb") (matches_of ssa_server (map S.text arguments.entry.now))) o.disturb) }
+    ensures disturbs_at_once { IfOk result (λ o. o.concurrent ≡ false → o.disturb ≡ None) }
     ensures log { IfOk result (λ o. IsFlag (one_of (codes "log") (matches_of ssa_server (map S.text arguments.entry.now))) o.log) }
     ensures record { IfOk result (λ o. option_map (λ s. s.now) o.record ≡ first_of (codes "record") (matches_of ssa_server (map S.text arguments.entry.now))) }
     ensures objects { IfOk result (λ o. option_map (λ s. s.now) o.objects ≡ first_of (codes "objects") (matches_of ssa_server (map S.text arguments.entry.now))) }
@@ -160,6 +174,8 @@ pub fn options<'a, S: AsStr>(
     let serve = number(&matches, SERVE)?;
     let concurrent = matches.get_flag(CONCURRENT);
     let patience = number(&matches, PATIENCE)?;
+    let asked = matches.get_str(DISTURB.name);
+    let disturb = disturbances_of(alloc, asked, concurrent)?;
     let discovery = matches.get_flag(DISCOVERY);
     Ok(ServerOptions {
         types: matches.get_str(TYPES).unwrap(),
@@ -169,6 +185,7 @@ pub fn options<'a, S: AsStr>(
         serve: count_of(serve),
         concurrent,
         patience,
+        disturb,
         log: matches.get_flag(LOG),
         record: matches.get_str(RECORD.name),
         objects: matches.get_str(OBJECTS.name),

@@ -81,6 +81,8 @@ fn creation(alloc: Global, api: &Api, line: &str) -> Result<Call, ObjectFault>
         target,
         query: Vec::new(alloc),
         body: Some(body),
+        agent: None,
+        ticked: 0,
     })
 }
 

@@ -16,6 +16,12 @@ pub enum ServerFault {
     /// A fault of the arguments, the types file, the port, the output or the store, or out of memory.
     #[error("{0}")]
     Run(RunFault),
+    /// The disturbances that are asked for cannot be read.
+    #[error("--disturb: a seed from 0 to 18446744073709551615, and behind a colon some of cuts,holds,expiries")]
+    Disturbances,
+    /// They are asked for where one connection is served after another.
+    #[error("--disturb: with --concurrent alone")]
+    DisturbsInTurn,
     /// The file of the first objects cannot be read.
     #[error("objects file {0}: {1}")]
     ObjectsFile(String, io::Error),
@@ -31,13 +37,15 @@ pub enum ServerFault {
 }
 
 impl ServerFault {
-    /// The exit status that tells the fault: 3 for the file of the first objects, 6 for the sockets or the clock, else that
-    /// of the run's fault.
+    /// The exit status that tells the fault: 2 for disturbances, 3 for the file of the first objects, 6 for the sockets or the
+    /// clock, else that of the run's fault.
     pub fn status(&self) -> u8
         ensures { result ≡ status_of self.now }
     {
         match self {
             ServerFault::Run(fault) => fault.status(),
+            ServerFault::Disturbances => 2,
+            ServerFault::DisturbsInTurn => 2,
             ServerFault::ObjectsFile(..) => 3,
             ServerFault::Object(..) => 3,
             ServerFault::Socket(_) => 6,

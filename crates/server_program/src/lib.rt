@@ -9,6 +9,7 @@
 
 mod arguments;
 mod creations;
+mod disturbing;
 mod fault;
 mod following;
 mod object_fault;

@@ -115,6 +115,7 @@ fn run_at_once<'a, R: Files + Net + Clock + Print + Eprint + AllocGlobal>(
         keep: options.keep,
         lines: options.pump,
         patience: options.patience,
+        disturbances: options.disturb,
     };
     let mut server = polling::Server::listen(rt, api, asked).map_err(|error| fault_at_start(
         rt,

@@ -4,7 +4,7 @@
 use crate::standard_error::StandardError;
 use event_log::{Log, Moment, Record};
 use httpedge::{Effect, Event, Hub, HubFault};
-use observing::Observer;
+use observing::{Disturbance, Observer};
 use std::fmt;
 use std::fs::OpenOptions;
 use std::io::{self, ErrorKind};
@@ -110,6 +110,15 @@ impl<'a, R: Files + Net + Clock + Eprint + AllocGlobal> Observer for Witness<'a,
     fn loses(&mut self, id: u64, why: ErrorKind) {
         if let Ok(moment) = moment(self.rt) {
             self.log.tell_loss(&mut self.errors, id, why, moment);
+        }
+    }
+
+    fn disturbs(&mut self, id: u64, how: Disturbance) {
+        if !self.log.tells_all() {
+            return;
+        }
+        if let Ok(moment) = moment(self.rt) {
+            self.log.tell_disturbance(&mut self.errors, id, how, moment);
         }
     }
 }

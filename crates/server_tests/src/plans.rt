@@ -42,6 +42,8 @@ fn planned(
         target,
         query,
         body,
+        agent: None,
+        ticked: 0,
     })?;
     plan_in_words(alloc, &plan)
 }

@@ -7,12 +7,14 @@
 //! | `line STEP` | the line of a script by which the event of a step of `hub_rows` happens |
 //! | `fault NAME` | the exit status and the text of a call's fault |
 //! | `log METHOD TARGET STATUS BYTES MICROS` | the line of a reply that took so many microseconds, on connection 7 at the start of 1970 |
+//! | `disturbed KIND` | the line of a watch that is disturbed so |
 
 use crate::given::{WIDGET_TYPES, fresh_api};
 use crate::hub_rows::event_of;
 use crate::streams::given::LIST;
 use event_log::{Line, Log, LogCall, Moment, Sink, Told, script_line};
 use httpedge::{Effect, Event, Hub, HubFault};
+use observing::Disturbance;
 use server_program::{ServerFault, options};
 use std::alloc::{AllocError, Global};
 use std::mem;
@@ -72,6 +74,22 @@ fn logged(alloc: Global, words: &str) -> Result<String, Fail> {
     Ok(format!(in alloc; "{line}")?)
 }
 
+/// The line of a watch that is disturbed, by the kind that a row names.
+fn disturbed(alloc: Global, kind: &str) -> Result<String, Fail> {
+    let how = match kind {
+        "cuts" => Disturbance::Cut,
+        "holds" => Disturbance::Hold,
+        "expiries" => Disturbance::Expiry,
+        _ => return Err("no such kind".into()),
+    };
+    let call = LogCall {
+        method: "GET",
+        target: "/a?watch=true",
+    };
+    let line = Line::new(Duration::ZERO, 7, call, Told::Disturbed(how));
+    Ok(format!(in alloc; "{line}")?)
+}
+
 /// What answers by the program's library.
 #[derive(Drop)]
 struct Program;
@@ -84,22 +102,26 @@ impl Answers for Program {
             "line" => line_of_step(alloc, rest),
             "fault" => ended(alloc, rest),
             "log" => logged(alloc, rest),
+            "disturbed" => disturbed(alloc, rest),
             _ => Err("no such question".into()),
         }
     }
 }
 
 const EXAMPLES: &str =
-    r#"options_are_read: defaults; each option once; the least and the greatest numbers, where 0 connections are no limit; other forms of words and numbers
-options ssa-server --types t => ServerOptions { types: "t", port: 0, keep: 1000, pump: 500, serve: 18446744073709551615, concurrent: false, patience: 30000, log: false, record: None, objects: None, discovery: false }
-options ssa-server --types widgets.json --port 8001 --keep 2 --pump 3 --serve 4 --concurrent --patience 5 => ServerOptions { types: "widgets.json", port: 8001, keep: 2, pump: 3, serve: 4, concurrent: true, patience: 5, log: false, record: None, objects: None, discovery: false }
-options ssa-server --types t --log --record r.jsonl => ServerOptions { types: "t", port: 0, keep: 1000, pump: 500, serve: 18446744073709551615, concurrent: false, patience: 30000, log: true, record: Some("r.jsonl"), objects: None, discovery: false }
-options ssa-server --types t --port 0 --keep 0 --pump 1 --serve 0 --patience 1 => ServerOptions { types: "t", port: 0, keep: 0, pump: 1, serve: 18446744073709551615, concurrent: false, patience: 1, log: false, record: None, objects: None, discovery: false }
-options ssa-server --types t --port 65535 --keep 18446744073709551615 => ServerOptions { types: "t", port: 65535, keep: 18446744073709551615, pump: 500, serve: 18446744073709551615, concurrent: false, patience: 30000, log: false, record: None, objects: None, discovery: false }
-options ssa-server --types t --pump 18446744073709551615 --serve 18446744073709551615 --patience 18446744073709551615 => ServerOptions { types: "t", port: 0, keep: 1000, pump: 18446744073709551615, serve: 18446744073709551615, concurrent: false, patience: 18446744073709551615, log: false, record: None, objects: None, discovery: false }
-options ssa-server --concurrent --serve=1 --pump=007 --keep=+7 --types=t => ServerOptions { types: "t", port: 0, keep: 7, pump: 7, serve: 1, concurrent: true, patience: 30000, log: false, record: None, objects: None, discovery: false }
-options ssa-server --types t --objects o => ServerOptions { types: "t", port: 0, keep: 1000, pump: 500, serve: 18446744073709551615, concurrent: false, patience: 30000, log: false, record: None, objects: Some("o"), discovery: false }
-options ssa-server --types t --discovery => ServerOptions { types: "t", port: 0, keep: 1000, pump: 500, serve: 18446744073709551615, concurrent: false, patience: 30000, log: false, record: None, objects: None, discovery: true }
+    r#"options_are_read: defaults; each option once; the least and the greatest numbers, where 0 connections are no limit; other forms of words and numbers; all kinds of disturbances, one, two
+options ssa-server --types t => ServerOptions { types: "t", port: 0, keep: 1000, pump: 500, serve: 18446744073709551615, concurrent: false, patience: 30000, disturb: None, log: false, record: None, objects: None, discovery: false }
+options ssa-server --types widgets.json --port 8001 --keep 2 --pump 3 --serve 4 --concurrent --patience 5 => ServerOptions { types: "widgets.json", port: 8001, keep: 2, pump: 3, serve: 4, concurrent: true, patience: 5, disturb: None, log: false, record: None, objects: None, discovery: false }
+options ssa-server --types t --log --record r.jsonl => ServerOptions { types: "t", port: 0, keep: 1000, pump: 500, serve: 18446744073709551615, concurrent: false, patience: 30000, disturb: None, log: true, record: Some("r.jsonl"), objects: None, discovery: false }
+options ssa-server --types t --port 0 --keep 0 --pump 1 --serve 0 --patience 1 => ServerOptions { types: "t", port: 0, keep: 0, pump: 1, serve: 18446744073709551615, concurrent: false, patience: 1, disturb: None, log: false, record: None, objects: None, discovery: false }
+options ssa-server --types t --port 65535 --keep 18446744073709551615 => ServerOptions { types: "t", port: 65535, keep: 18446744073709551615, pump: 500, serve: 18446744073709551615, concurrent: false, patience: 30000, disturb: None, log: false, record: None, objects: None, discovery: false }
+options ssa-server --types t --pump 18446744073709551615 --serve 18446744073709551615 --patience 18446744073709551615 => ServerOptions { types: "t", port: 0, keep: 1000, pump: 18446744073709551615, serve: 18446744073709551615, concurrent: false, patience: 18446744073709551615, disturb: None, log: false, record: None, objects: None, discovery: false }
+options ssa-server --concurrent --serve=1 --pump=007 --keep=+7 --types=t => ServerOptions { types: "t", port: 0, keep: 7, pump: 7, serve: 1, concurrent: true, patience: 30000, disturb: None, log: false, record: None, objects: None, discovery: false }
+options ssa-server --types t --objects o => ServerOptions { types: "t", port: 0, keep: 1000, pump: 500, serve: 18446744073709551615, concurrent: false, patience: 30000, disturb: None, log: false, record: None, objects: Some("o"), discovery: false }
+options ssa-server --types t --discovery => ServerOptions { types: "t", port: 0, keep: 1000, pump: 500, serve: 18446744073709551615, concurrent: false, patience: 30000, disturb: None, log: false, record: None, objects: None, discovery: true }
+options ssa-server --types t --concurrent --disturb 7 => ServerOptions { types: "t", port: 0, keep: 1000, pump: 500, serve: 18446744073709551615, concurrent: true, patience: 30000, disturb: Some(Disturbances { seed: 7, cuts: true, holds: true, expiries: true }), log: false, record: None, objects: None, discovery: false }
+options ssa-server --types t --concurrent --disturb 18446744073709551615:cuts => ServerOptions { types: "t", port: 0, keep: 1000, pump: 500, serve: 18446744073709551615, concurrent: true, patience: 30000, disturb: Some(Disturbances { seed: 18446744073709551615, cuts: true, holds: false, expiries: false }), log: false, record: None, objects: None, discovery: false }
+options ssa-server --types t --concurrent --disturb +07:expiries,holds,holds => ServerOptions { types: "t", port: 0, keep: 1000, pump: 500, serve: 18446744073709551615, concurrent: true, patience: 30000, disturb: Some(Disturbances { seed: 7, cuts: false, holds: true, expiries: true }), log: false, record: None, objects: None, discovery: false }
 
 events_are_lines: each event; texts that JSON escapes
 line open 1 => {"open":1}$
@@ -117,6 +139,11 @@ log PATCH /a?force=true&fieldManager=alice&x=1 201 413 1234567 => 0.000 7 PATCH 
 log PUT /a?xfieldManager=b&fieldManager=c%20d&fieldManager=e 200 1 999 => 0.000 7 PUT /a?xfieldManager=b&fieldManager=c%20d&fieldManager=e 200 1 c%20d 0.999
 log PUT /a?fieldManager= 422 1 1000 => 0.000 7 PUT /a?fieldManager= 422 1 - 1.000
 log GET /é 404 20 0 => 0.000 7 GET /\xc3\xa9 404 20 - 0.000
+
+disturbances_are_logged
+disturbed cuts => 0.000 7 GET /a?watch=true disturbed: cut
+disturbed holds => 0.000 7 GET /a?watch=true disturbed: held back
+disturbed expiries => 0.000 7 GET /a?watch=true disturbed: expired
 
 faults_of_calls_are_told
 fault Store => 5: the store failed

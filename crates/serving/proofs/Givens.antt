@@ -9,6 +9,7 @@ use Rattle.std.proofs.Math.Seq.{drop-append_seam}
 use Rattle.api_types.specs.TypesFile.{ServedShape}
 use Rattle.history.specs.History.{History}
 use Rattle.verbs.specs.Retyping.{retyping}
+use Rattle.api_request.specs.Calls.{at_tick}
 use Rattle.verbs.specs.Step.{planned}
 use Rattle.requests.specs.Asks.{CallDecision}
 use Rattle.httpedge.specs.Connections.{Connection, Connections, Phase, waiting, watching, ended, gone, each, has_ended, is_new, is_open, untaken_in, new_connection, out_of, out_on, with_phase, with_taken, with_written}
@@ -45,7 +46,7 @@ after_given : (given : List ℕ) (types : List ServedShape) (m : History) (last_
 after_given given types m last_tick c bytes undecided is = stood given c (waiting bytes) is
 after_given given types m last_tick c bytes (refused d) is = grown given c (refusal_reply d) ended is
 after_given given types m last_tick c bytes (accepted call) is =
-    let a = (planned types m call).answer in
+    let a = (planned types m (at_tick last_tick call)).answer in
     grown given c (answer_bytes a a.watch) (answer_phase last_tick a.watch) is
 
 turn_given : (given : List ℕ) (turn : Watch → Turn) (c : Connection) (st : Phase) → IsGiven given (Some c) → IsGiven given (Some (after_turn turn c st))

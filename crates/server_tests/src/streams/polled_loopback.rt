@@ -83,6 +83,7 @@ fn play(rt: &HostRuntime, keep: u64, patience: u64, rows: &str) -> Result<(), Fa
         keep,
         lines: 500,
         patience,
+        disturbances: None,
     };
     let mut server = Server::listen(rt, fresh_api(rt.alloc(), WIDGET_TYPES)?, options)?;
     let played = play_rows(rt, &mut server, rows);

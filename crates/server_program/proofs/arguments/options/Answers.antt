@@ -1,6 +1,7 @@
-use Rattle.std.proofs.Common.{◌∙◌, Some, codes, refl, sym}
+use Rattle.std.proofs.Common.{◌∙◌, Some, codes, refl, subst, sym}
 use Rattle.clap.proofs.CallerLemmas.{some_of_text}
 use Rattle.programs.proofs.OptionValues.{flag_by, flag_is, number_by, text_is, value_is}
+use Rattle.server_program.specs.Disturbing.{AsksBy}
 use Rattle.server_program.proofs.ServerArguments.{is_plain}
 use Rattle.server_program.proofs.arguments.options.Goals as goal
 
@@ -32,6 +33,11 @@ returns-clause-concurrent g c =
 pub returns-clause-patience : goal.returns-clause-patience
 returns-clause-patience g c =
     (number_by _ _ (Some (codes "30000")) _ _ _ _ (value_is _ is_plain _ c.in_ok-server_command.ensures.app _ _ c.in_ok-matches.ensures.matches (codes "patience")) refl c.in_ok-patience.ensures.number).0
+
+pub returns-clause-disturb : goal.returns-clause-disturb
+returns-clause-disturb g c =
+    subst (λ text. AsksBy text c.in_ok-disturb.disturb)
+    (c.get_str-asked.ensures ∙ value_is _ is_plain _ c.in_ok-server_command.ensures.app _ _ c.in_ok-matches.ensures.matches (codes "disturb")) c.in_ok-disturb.ensures.asked
 
 pub returns-clause-log : goal.returns-clause-log
 returns-clause-log g c =

@@ -7,6 +7,9 @@ returns-in_default g c = unasked_none _
 pub returns-in_default-get : goal.returns-in_default-get
 returns-in_default-get g c = unasked_none _
 
+pub returns-then-contains : goal.returns-then-contains
+returns-then-contains g c = unasked_none _
+
 pub returns-then-has_turn : goal.returns-then-has_turn
 returns-then-has_turn g c = unasked_then _ _ _ (unasked_same _ _ c.has_turn.ensures) c.pump_watch.ensures
 
